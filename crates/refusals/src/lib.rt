@@ -1,0 +1,64 @@
+// The refusals of document 01 by name. Their numbers stand in one definition, refusalNo.
+ghost use mathlib.Core.Path.{_≡_};
+ghost use Rattle.refusals.specs.Refusals.{numberOf, refusalNo};
+
+pub enum Refusal {
+    // because of the input
+    NotEventFile,
+    WrongVersion,
+    CutShort,
+    BadField,
+    Undeclared,
+    NotNext,
+    SourceIsTarget,
+    WrongSort,
+    NotLater,
+    // because of the state
+    EntitiesFull,
+    VersionsFull,
+    EdgesFull,
+    AcceptedFull,
+    BufferShort,
+    OutputShort,
+    Unsound,
+}
+
+// What a list of checks gives.
+pub enum Checked {
+    Passed,
+    Refused(Refusal),
+}
+
+// The number of a refusal.
+pub fn refusal_number(r: Refusal) -> u32
+    ensures { λ n. ⌜ n ≡ refusalNo r ⌝ }
+{
+    match r {
+        Refusal::NotEventFile => 1,
+        Refusal::WrongVersion => 2,
+        Refusal::CutShort => 3,
+        Refusal::BadField => 4,
+        Refusal::Undeclared => 5,
+        Refusal::NotNext => 6,
+        Refusal::SourceIsTarget => 7,
+        Refusal::WrongSort => 8,
+        Refusal::NotLater => 9,
+        Refusal::EntitiesFull => 10,
+        Refusal::VersionsFull => 11,
+        Refusal::EdgesFull => 12,
+        Refusal::AcceptedFull => 13,
+        Refusal::BufferShort => 14,
+        Refusal::OutputShort => 15,
+        Refusal::Unsound => 16,
+    }
+}
+
+// The number that a call returns: 0 where nothing is refused.
+pub fn number(c: Checked) -> u32
+    ensures { λ n. ⌜ n ≡ numberOf c ⌝ }
+{
+    match c {
+        Checked::Passed => 0,
+        Checked::Refused(r) => refusal_number(r),
+    }
+}

@@ -1,0 +1,82 @@
+-- The worked trail and the order of refusals: every row is computed by the definitions, from the bytes of the file.
+use mathlib.Core.Path.{_≡_, refl}
+use Rattle.refusals.specs.Refusals.{firstOf}
+use Rattle.rows.specs.Rows.{entityAt, versionAt, edgeAt, putEntity, putVersion, putEdge}
+use Rattle.rows.specs.Capacity.{entityCapacity, versionCapacity, edgeCapacity}
+use Rattle.record.specs.Layout.{kindOf}
+use Rattle.record.specs.Header.{headerChecks}
+use Rattle.record.specs.Decode.{declarationChecks, eventChecks, decodeOf, decodeFrom}
+use Rattle.record.specs.Encode.{encodeOf}
+use Rattle.rules.specs.Sound.{every, allBelow, isObject, isSubject, sourceFits, targetFits, follows, soundCounts, soundEntity, soundPrevious, soundVersion, soundEdge, timeBefore, entityTest, versionTest, edgeTest, isSound}
+use Rattle.rules.specs.Decide.{goesTo, newestTo, leaves, repeatOf, gives, decisionOf}
+use Rattle.rules.specs.Record.{declarationRefusals, eventRefusals, refusalOf, changeOf, stepOf}
+use Rattle.rules.specs.Batch.{readFrom, contentsOf, takeIn, batchChecks, batchOf}
+use Rattle.rules.specs.Start.{startFrom, startOf, timesInto, intakeOf}
+use Rattle.rules.specs.Marks.{follow, pass, passes, seeded, closed, hasMarked, marksBelow, ones}
+use Rattle.rules.specs.Backward.{isFollowed, edgesBack, stepsBack, backwardArcs, backwardWork, backwardEntities, traceChecks, backwardOf}
+use Rattle.rules.specs.Forward.{edgesOn, stepsOn, forwardArcs, forwardWork, forwardEntities, forwardIntake, forwardOf}
+use Rattle.rules.specs.KeptLog.{encodedBelow, logBytes, logChecks, keptLogOf}
+use Rattle.rules.specs.Listing.{decimalIn, spaced, edgeLines, recordNo, refusedLine, listingOf}
+use Rattle.rules.specs.Worked.{batch, backward, forward, log, WorkedTrail}
+use Rattle.rules.specs.Order.{OrderOfRefusals}
+
+pub cases : WorkedTrail × OrderOfRefusals
+unfolding firstOf entityAt versionAt edgeAt putEntity putVersion putEdge entityCapacity versionCapacity edgeCapacity kindOf headerChecks declarationChecks eventChecks decodeOf decodeFrom encodeOf every allBelow isObject isSubject sourceFits targetFits follows soundCounts soundEntity soundPrevious soundVersion soundEdge timeBefore entityTest versionTest edgeTest isSound goesTo newestTo leaves repeatOf gives decisionOf declarationRefusals eventRefusals refusalOf changeOf stepOf readFrom contentsOf takeIn batchChecks batchOf startFrom startOf timesInto intakeOf follow pass passes seeded closed hasMarked marksBelow ones isFollowed edgesBack stepsBack backwardArcs backwardWork backwardEntities traceChecks backwardOf edgesOn stepsOn forwardArcs forwardWork forwardEntities forwardIntake forwardOf encodedBelow logBytes logChecks keptLogOf decimalIn spaced edgeLines recordNo refusedLine listingOf batch backward forward log
+cases = (
+  record {
+    p1-answer = refl;
+    p1-counts = refl;
+    p1-edges = refl;
+    p1-listing = refl;
+    p2 = (refl, refl);
+    p3-at-4 = (refl, refl);
+    p3-at-5 = (refl, refl);
+    p4 = (refl, refl);
+    p5 = (refl, refl);
+    p6 = (refl, refl);
+    p7 = (refl, refl);
+    p8 = (refl, refl);
+    p9-at-0 = refl;
+    p9-listing = refl;
+    p9-at-1 = refl;
+    p10 = refl;
+    p11 = refl;
+    empty-file = refl;
+    header-alone = refl;
+    log-104 = refl;
+    log-103 = refl;
+    log-bytes = refl;
+    log-refused = refl;
+  },
+  record {
+    r16-1 = refl;
+    r1-2 = refl;
+    r1-2-zeros = refl;
+    r2-3 = refl;
+    r3-4 = refl;
+    r3-after = refl;
+    r4-6 = refl;
+    r4-5 = refl;
+    r6-10 = refl;
+    r10-11 = refl;
+    r11 = refl;
+    r5-7 = refl;
+    r5-8 = refl;
+    r7-8 = refl;
+    r8-9 = refl;
+    r8-target = refl;
+    r9-13 = refl;
+    r13-12 = refl;
+    r13-repeat = refl;
+    r12-11 = refl;
+    r11-event = refl;
+    r12-execve = refl;
+    trace-16-5 = refl;
+    trace-5-14 = refl;
+    trace-14-work = refl;
+    trace-14-marks = refl;
+    trace-refused-marks = refl;
+    log-16-15 = refl;
+    log-15 = refl;
+  },
+)
