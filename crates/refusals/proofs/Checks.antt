@@ -2,7 +2,7 @@
 -- early returns, `search picks depth 14` one that a choice on tests defines. Where a test compares with a number that a call returned
 -- on its right, or on both sides, `search (checks, by-right, by-both) depth 14 fits 10000`. Then what a list that passes says.
 use Prim.Native.Nat.{ℕ, _≤_, _<_}
-use mathlib.Core.Path.{_≡_, refl, sym, _∙_}
+use mathlib.Core.Path.{_≡_, refl}
 use mathlib.Core.Bool.{Bool, true, false, not, cond}
 use mathlib.Core.List.{List, [], _∷_}
 use native.Mathlib.Omega.{arith}

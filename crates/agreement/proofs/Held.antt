@@ -1,0 +1,60 @@
+-- What is known of the tables that a call of a list is lent: they are grown as the trace theorem asks, sound, and few.
+use Prim.Native.Nat.{ℕ, _≤_}
+use native.Mathlib.Omega.{arith}
+use mathlib.Core.Path.{_≡_, sym, ap}
+use mathlib.Core.List.{List}
+use Rattle.rows.specs.declared.EntityRow.{EntityRow}
+use Rattle.rows.specs.declared.VersionRow.{VersionRow}
+use Rattle.rows.specs.declared.EdgeRow.{EdgeRow}
+use Rattle.record.specs.declared.Record.{Record}
+use Rattle.rules.specs.Trail.{Tables, Trail, trailOf, none}
+use Rattle.rules.specs.PlainList.{worked, itemsOf}
+use Rattle.rules.specs.History.{Item}
+use Rattle.rules.specs.Calls.{Held, Lent}
+use Rattle.soundness.specs.Facts.{RowFacts}
+use Rattle.closure.specs.Same.{SameRows}
+use Rattle.causality.specs.Working.{Same, Grown}
+use Rattle.causality.specs.Statements.{Faithful, Document01}
+use Rattle.causality.proofs.Same.{grown-same}
+use Rattle.causality.proofs.Theorem.{claims}
+use Rattle.agreement.proofs.Plain.{taken-fine}
+use Rattle.agreement.proofs.Matching.{Matches, lent-alike, lent-rows}
+
+same : {T U : Trail} → SameRows T U → Same T U
+same s = record {
+  ne-is = sym (s .entities);
+  nv-is = sym (s .versions);
+  nd-is = sym (s .edges);
+  latest-old = λ y l. ap (λ (r : EntityRow). r .latest .0) (sym (s .entity-rows y l));
+  old = record {
+    owner-old = λ a l. ap (λ (r : VersionRow). r .entity .0) (sym (s .version-rows a l));
+    start-old = λ a l. ap (λ (r : VersionRow). r .start) (sym (s .version-rows a l));
+    previous-old = λ a l. ap (λ (r : VersionRow). r .previous .0) (sym (s .version-rows a l));
+    from-old = λ k l. ap (λ (r : EdgeRow). r .from .0) (sym (s .edge-rows k l));
+    to-old = λ k l. ap (λ (r : EdgeRow). r .to .0) (sym (s .edge-rows k l));
+    kind-old = λ k l. ap (λ (r : EdgeRow). r .kind) (sym (s .edge-rows k l));
+    time-old = λ k l. ap (λ (r : EdgeRow). r .time) (sym (s .edge-rows k l));
+  };
+}
+
+pub record Known (U : Trail) (n : ℕ) (hs : List Item) : Type 0 where
+  pub rows : RowFacts U
+  pub few : U .counts .versions ≤ none
+  pub entities : n ≡ U .counts .entities
+  pub grown : Grown U hs
+  pub faithful : Faithful U hs
+  pub document01 : Document01 U hs
+
+pub known : (h : Held) (rs : List Record) → Matches h rs → (t : Tables) → Lent h t → Known (trailOf (h .counts) t) (worked rs .counts .entities) (itemsOf rs)
+known h rs m t l =
+    let f = taken-fine (m .taken) in
+    let a = lent-alike h rs m t l in
+    let g = grown-same (f .grown) (same (a .rows)) in
+    record {
+      rows = lent-rows h rs m t l;
+      few = omega (arith, f .counted .versions-in, a .rows .versions);
+      entities = a .rows .entities;
+      grown = g;
+      faithful = claims .any-working g;
+      document01 = claims .document01 g (f .falling);
+    }

@@ -1,0 +1,162 @@
+-- After any list of calls the counts and rows in use are those that the plain list gives when worked from none.
+use Prim.Native.Nat.{ℕ, _+_, _*_, _≤_, min}
+use native.Mathlib.Omega.{arith}
+use mathlib.Core.Path.{_≡_, refl, sym, _∙_, ap, subst}
+use mathlib.Core.Bool.{true}
+use mathlib.Core.List.{List, [], _∷_}
+use lib.ListN.{length}
+use Rattle.refusals.specs.declared.Checked.{Checked}
+use Rattle.refusals.specs.declared.Checked.the-variants.{Passed, Refused}
+use Rattle.refusals.specs.Refusals.{firstOf}
+use Rattle.rows.specs.declared.Counts.{Counts}
+use Rattle.rows.specs.Rows.{entityWidth, versionWidth, edgeWidth}
+use Rattle.rows.specs.Capacity.{entityCapacity, versionCapacity, edgeCapacity}
+use Rattle.record.specs.declared.Record.{Record}
+use Rattle.record.specs.Header.{headerChecks}
+use Rattle.rules.specs.Trail.{Tables, Capacity, capacityOf, trailOf}
+use Rattle.rules.specs.Sound.{isSound}
+use Rattle.rules.specs.Record.{refusalOf, stepOf}
+use Rattle.rules.specs.PlainList.{worked, itemsOf, added, addedBy}
+use Rattle.rules.specs.Batch.{Batched, batched, unless, contentsOf, takeIn, batchChecks, batchOf}
+use Rattle.rules.specs.Calls.{Call, batch, backward, forward, Held, heldAfter, Lent, AllLent, plainAfter}
+use Rattle.soundness.specs.Facts.{CountFacts, RowFacts}
+use Rattle.soundness.specs.Taken.{SortFits}
+use Rattle.soundness.proofs.Passes.{facts-sound}
+use Rattle.soundness.proofs.TableStep.{step-checked, step-capacity, step-trail, step-sound}
+use Rattle.closure.proofs.SameFacts.{rowFacts-same}
+use Rattle.agreement.specs.Taken.{greatest, Within, Taken, begun, next}
+use Rattle.agreement.proofs.Judged.{refusal-same}
+use Rattle.agreement.proofs.Changed.{Alike, changed-alike}
+use Rattle.agreement.proofs.Plain.{Fine, taken-fine}
+use Rattle.agreement.proofs.Contents.{AllFit, contents-fit}
+
+pub record Matches (h : Held) (rs : List Record) : Type 0 where
+  pub taken : Taken rs
+  pub alike : Alike (worked rs) (trailOf (h .counts) (h .tables))
+
+-- Capacity
+
+min-le : (a b n : ℕ) → n ≤ a → n ≤ b → n ≤ min a b
+min-le a b n p q = omega arith
+
+pub capacity-within : (t : Tables) → Within (capacityOf t)
+unfolding entityCapacity versionCapacity edgeCapacity
+capacity-within t = record { entities = omega arith; versions = omega arith; edges = omega arith }
+
+-- tables that hold the rows in use have the capacity for them
+room-counts : (c : Counts) (t : Tables) → CountFacts greatest c → entityWidth * c .entities ≤ length (t .entities) → versionWidth * c .versions ≤ length (t .versions)
+    → edgeWidth * c .edges ≤ length (t .edges) → CountFacts (capacityOf t) c
+unfolding entityCapacity versionCapacity edgeCapacity
+room-counts c t f p q r = record {
+  entities-in = omega (arith, f .entities-in);
+  versions-in = omega (arith, f .versions-in);
+  edges-in = omega (arith, f .edges-in);
+  edges-accepted = f .edges-accepted;
+  accepted-most = f .accepted-most;
+}
+
+-- A call lent what stands in h
+
+module _ (h : Held) (rs : List Record) (m : Matches h rs) (t : Tables) (l : Lent h t) where
+  fine : Fine (worked rs) (itemsOf rs)
+  fine = taken-fine (m .taken)
+
+  pub lent-alike : Alike (worked rs) (trailOf (h .counts) t)
+  lent-alike = record {
+    counts = m .alike .counts;
+    rows = record {
+      entities = m .alike .rows .entities;
+      versions = m .alike .rows .versions;
+      edges = m .alike .rows .edges;
+      entity-rows = λ k i. m .alike .rows .entity-rows k i ∙ sym (l .entity-rows k (omega (arith, m .alike .rows .entities)));
+      version-rows = λ k i. m .alike .rows .version-rows k i ∙ sym (l .version-rows k (omega (arith, m .alike .rows .versions)));
+      edge-rows = λ k i. m .alike .rows .edge-rows k i ∙ sym (l .edge-rows k (omega (arith, m .alike .rows .edges)));
+    };
+  }
+
+  pub lent-rows : RowFacts (trailOf (h .counts) t)
+  lent-rows = rowFacts-same (lent-alike .rows) (ap (λ (c : Counts). c .last) (m .alike .counts)) (fine .rows)
+
+  pub lent-sound : isSound (capacityOf t) (trailOf (h .counts) t) ≡ true
+  lent-sound =
+      facts-sound (trailOf (h .counts) t) lent-rows (capacityOf t)
+      (room-counts (h .counts) t (subst (CountFacts greatest) (m .alike .counts) (fine .counted)) (l .entity-room) (l .version-room) (l .edge-room))
+
+-- Records taken in, in tables that keep their capacity
+
+pub record Ready (cap : Capacity) (c : Counts) (t : Tables) (rs : List Record) : Type 0 where
+  pub taken : Taken rs
+  pub alike : Alike (worked rs) (trailOf c t)
+  pub sound : isSound (capacityOf t) (trailOf c t) ≡ true
+  pub capacity : capacityOf t ≡ cap
+
+module _ (cap : Capacity) (w : Within cap) where
+  module _ (c : Counts) (t : Tables) (rs : List Record) (y : Ready cap c t rs) (r : Record) where
+    -- the record is refused alike over the tables and over the plain list
+    checked-same : stepOf c t r .checked ≡ refusalOf cap (worked rs) r
+    checked-same =
+        step-checked c t r ∙ ap (λ (k : Capacity). refusalOf k (trailOf c t) r) (y .capacity)
+        ∙ sym (refusal-same (y .alike .counts) (y .alike .rows) (taken-fine (y .taken) .rows) cap r)
+
+    ready-next : SortFits r → refusalOf cap (worked rs) r ≡ Passed → Ready cap (stepOf c t r .counts) (stepOf c t r .tables) (r ∷ rs)
+    ready-next s h =
+        let p : stepOf c t r .checked ≡ Passed = checked-same ∙ h in
+        record {
+          taken = next (y .taken) cap w r s h;
+          alike =
+              subst (Alike (worked (r ∷ rs))) (sym (step-trail c t r (y .sound) p))
+              (changed-alike (worked rs) (taken-fine (y .taken) .rows) cap (trailOf c t) (y .alike) r h);
+          sound = step-sound c t r (y .sound) s;
+          capacity = step-capacity c t r ∙ y .capacity;
+        }
+
+  takeIn-ready : (c : Counts) (t : Tables) (rs : List Record) → Ready cap c t rs → (n : ℕ) (more : List Record) (ending : Checked) → AllFit more
+      → Ready cap (takeIn c t n more ending .counts) (takeIn c t n more ending .tables) (added cap rs more)
+  unfolding takeIn added
+  takeIn-ready c t rs y n [] ending a = y
+  takeIn-ready c t rs y n (r ∷ more) ending a =
+      rw (checked-same c t rs y r)
+      (go (refusalOf cap (worked rs) r) refl (λ h. takeIn-ready _ _ (r ∷ rs) (ready-next c t rs y r (a .0) h) (n + 1) more ending (a .1)))
+    where
+      rest : Batched
+      rest = takeIn (stepOf c t r .counts) (stepOf c t r .tables) (n + 1) more ending
+
+      stop : Checked → Batched
+      stop x = batched x n c t
+
+      go : (x : Checked) → refusalOf cap (worked rs) r ≡ x → (refusalOf cap (worked rs) r ≡ Passed → Ready cap (rest .counts) (rest .tables) (added cap (r ∷ rs) more))
+          → Ready cap (unless x (stop x) rest .counts) (unless x (stop x) rest .tables) (unless x rs (added cap (r ∷ rs) more))
+      go Passed q ih = ih q
+      go (Refused x) q ih = y
+
+  batch-ready : (c : Counts) (t : Tables) (rs : List Record) → Ready cap c t rs → (file : List ℕ)
+      → Ready cap (batchOf c t file .counts) (batchOf c t file .tables) (addedBy cap rs file)
+  unfolding batchOf batchChecks addedBy firstOf
+  batch-ready c t rs y file =
+      rw (y .sound)
+      (go (firstOf (headerChecks file)) (takeIn-ready c t rs y 0 (contentsOf file .records) (contentsOf file .ending) (contents-fit file)))
+    where
+      rest : Batched
+      rest = takeIn c t 0 (contentsOf file .records) (contentsOf file .ending)
+
+      go : (x : Checked) → Ready cap (rest .counts) (rest .tables) (added cap rs (contentsOf file .records))
+          → Ready cap (unless x (batched x 0 c t) rest .counts) (unless x (batched x 0 c t) rest .tables) (unless x rs (added cap rs (contentsOf file .records)))
+      go Passed z = z
+      go (Refused x) z = y
+
+pub matches : (cs : List Call) → AllLent cs → Matches (heldAfter cs) (plainAfter cs)
+matches [] a = record {
+  taken = begun;
+  alike = record {
+    counts = refl;
+    rows = record { entities = refl; versions = refl; edges = refl; entity-rows = λ k l. refl; version-rows = λ k l. refl; edge-rows = λ k l. refl };
+  };
+}
+matches (batch t file ∷ cs) a =
+    let m = matches cs (a .1) in
+    let y : Ready (capacityOf t) (heldAfter cs .counts) t (plainAfter cs)
+    = record { taken = m .taken; alike = lent-alike _ _ m t (a .0); sound = lent-sound _ _ m t (a .0); capacity = refl } in
+    let z = batch-ready (capacityOf t) (capacity-within t) _ _ _ y file in
+    record { taken = z .taken; alike = z .alike }
+matches (backward t v time work marks ∷ cs) a = let m = matches cs (a .1) in record { taken = m .taken; alike = lent-alike _ _ m t (a .0) }
+matches (forward t u time work marks ∷ cs) a = let m = matches cs (a .1) in record { taken = m .taken; alike = lent-alike _ _ m t (a .0) }

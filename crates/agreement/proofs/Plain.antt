@@ -1,0 +1,131 @@
+-- A plain list whose records are taken in: its working is grown as the trace theorem asks, its rows are sound, times rise.
+use Prim.Native.Nat.{_<_}
+use native.Mathlib.Omega.{arith}
+use mathlib.Core.Path.{_≡_, refl}
+use mathlib.Core.List.{List, _∷_}
+use Rattle.refusals.specs.declared.Checked.the-variants.{Passed}
+use Rattle.record.specs.declared.Declaration.{Declaration}
+use Rattle.record.specs.declared.Event.{Event}
+use Rattle.record.specs.declared.Record.{Record}
+use Rattle.record.specs.declared.Record.the-variants as records
+use Rattle.rules.specs.declared.Decision.{Decision}
+use Rattle.rules.specs.declared.Decision.the-variants.{Repeat, Widen, Renew}
+use Rattle.rules.specs.Trail.{Capacity, Trail, none, latestOf}
+use Rattle.rules.specs.Decide.{decisionOf}
+use Rattle.rules.specs.Record.{happened, refusalOf, changeOf}
+use Rattle.rules.specs.PlainList.{changed, worked, itemsOf}
+use Rattle.rules.specs.History.{Item, itemOf, accepted}
+use Rattle.soundness.specs.Facts.{CountFacts, RowFacts}
+use Rattle.soundness.specs.Taken.{DeclarationTaken, EventTaken, SortFits}
+use Rattle.soundness.proofs.Taken.{declaration-taken, event-taken}
+use Rattle.soundness.proofs.Step.{step-rows, fresh-rows, fresh-counts}
+use Rattle.causality.specs.Working.{lastOf, Fit, Grown}
+use Rattle.causality.specs.Order.{Falling}
+use Rattle.causality.proofs.Same.{grown-same}
+use Rattle.causality.proofs.Strict.{falling-next}
+use Rattle.agreement.specs.Taken.{greatest, Within, Taken, begun, next}
+use Rattle.agreement.proofs.Growing.{declares, repeats, widens, renews, repeat-may-drop}
+
+pub record Fine (T : Trail) (hs : List Item) : Type 0 where
+  pub rows : RowFacts T
+  pub counted : CountFacts greatest (T .counts)
+  pub grown : Grown T hs
+  pub last : T .counts .last ≡ lastOf hs
+  pub falling : Falling (accepted hs)
+
+module _ (cap : Capacity) (w : Within cap) (T : Trail) (hs : List Item) (f : Fine T hs) where
+  module _ (d : Declaration) (p : DeclarationTaken cap (T .counts) d) where
+    declared-counts : CountFacts greatest (changeOf T (records.Declaration d) .counts)
+    unfolding changeOf
+    declared-counts = record {
+      entities-in = omega (arith, p .entities-left, w .entities);
+      versions-in = omega (arith, p .versions-left, w .versions);
+      edges-in = f .counted .edges-in;
+      edges-accepted = f .counted .edges-accepted;
+      accepted-most = f .counted .accepted-most;
+    }
+
+  module _ (e : Event) where
+    happened-counts : (d : Decision) → EventTaken cap T e d → CountFacts greatest (happened T e d .counts)
+    happened-counts (Repeat k) p = record {
+      entities-in = f .counted .entities-in;
+      versions-in = f .counted .versions-in;
+      edges-in = f .counted .edges-in;
+      edges-accepted = omega (arith, f .counted .edges-accepted);
+      accepted-most = omega (arith, p .accepted-left);
+    }
+    happened-counts Widen p = record {
+      entities-in = f .counted .entities-in;
+      versions-in = f .counted .versions-in;
+      edges-in = omega (arith, p .edges-left refl, w .edges);
+      edges-accepted = omega (arith, f .counted .edges-accepted);
+      accepted-most = omega (arith, p .accepted-left);
+    }
+    happened-counts Renew p = record {
+      entities-in = f .counted .entities-in;
+      versions-in = omega (arith, p .versions-left refl, w .versions);
+      edges-in = omega (arith, p .edges-left refl, w .edges);
+      edges-accepted = omega (arith, f .counted .edges-accepted);
+      accepted-most = omega (arith, p .accepted-left);
+    }
+
+    fit : (d : Decision) → EventTaken cap T e d → Fit T (lastOf hs) e
+    fit d p = record {
+      source-in = p .source-in;
+      target-in = p .target-in;
+      apart = p .apart;
+      later = omega (arith, p .later, f .last);
+      positive = omega (arith, p .later);
+    }
+
+    latest-some : e .target .0 < T .counts .entities → latestOf T (e .target .0) ≡ none → ⊥
+    latest-some h q = let a = f .rows .entity (e .target .0) h .latest-in in let b = f .counted .versions-in in omega arith
+
+    grown-event : (d : Decision) → decisionOf T e ≡ d → EventTaken cap T e d → Grown (changed T (happened T e d)) (itemOf d e ∷ hs)
+    grown-event (Repeat k) q p = grown-same (Grown.repeated (f .grown) e (fit (Repeat k) p) (repeat-may-drop T e k q)) (repeats T e)
+    grown-event Widen q p = Grown.entered (f .grown) e (fit Widen p) _ (widens T e q)
+    grown-event Renew q p = Grown.entered (f .grown) e (fit Renew p) _ (renews T e (latest-some (p .target-in)))
+
+    last-event : (d : Decision) → changed T (happened T e d) .counts .last ≡ lastOf (itemOf d e ∷ hs)
+    last-event (Repeat k) = refl
+    last-event Widen = refl
+    last-event Renew = refl
+
+    counts-event : (d : Decision) → CountFacts greatest (happened T e d .counts) → CountFacts greatest (changed T (happened T e d) .counts)
+    counts-event (Repeat k) c = c
+    counts-event Widen c = c
+    counts-event Renew c = c
+
+    falling-event : (d : Decision) → EventTaken cap T e d → Falling (accepted (itemOf d e ∷ hs))
+    falling-event (Repeat k) p = falling-next (f .grown) (f .falling) e (omega (arith, p .later, f .last))
+    falling-event Widen p = falling-next (f .grown) (f .falling) e (omega (arith, p .later, f .last))
+    falling-event Renew p = falling-next (f .grown) (f .falling) e (omega (arith, p .later, f .last))
+
+-- one record more
+fine-next : (cap : Capacity) → Within cap → (rs : List Record) → Fine (worked rs) (itemsOf rs) → (r : Record) → SortFits r
+    → refusalOf cap (worked rs) r ≡ Passed → Fine (worked (r ∷ rs)) (itemsOf (r ∷ rs))
+unfolding refusalOf changeOf
+fine-next cap w rs f (records.Declaration d) s h =
+    let p = declaration-taken cap (worked rs .counts) d h in
+    record {
+      rows = step-rows cap (worked rs) (records.Declaration d) s h (f .rows);
+      counted = declared-counts cap w (worked rs) (itemsOf rs) f d p;
+      grown = Grown.declared (f .grown) (declares (worked rs) d);
+      last = f .last;
+      falling = f .falling;
+    }
+fine-next cap w rs f (records.Event e) s h =
+    let T = worked rs in
+    let d = decisionOf T e in
+    let p = event-taken cap T e d h in
+    record {
+      rows = step-rows cap T (records.Event e) s h (f .rows);
+      counted = counts-event cap w T (itemsOf rs) f e d (happened-counts cap w T (itemsOf rs) f e d p);
+      grown = grown-event cap w T (itemsOf rs) f e d refl p;
+      last = last-event cap w T (itemsOf rs) f e d;
+      falling = falling-event cap w T (itemsOf rs) f e d p;
+    }
+
+pub taken-fine : {rs : List Record} → Taken rs → Fine (worked rs) (itemsOf rs)
+taken-fine begun = record { rows = fresh-rows _ refl; counted = fresh-counts greatest; grown = Grown.begun refl refl refl; last = refl; falling = tt }
+taken-fine (next {rs = rs} t cap w r s h) = fine-next cap w rs (taken-fine t) r s h

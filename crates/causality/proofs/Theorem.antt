@@ -1,0 +1,104 @@
+-- The proof of what Statements claims.
+use Prim.Native.Nat.{ℕ}
+use mathlib.Core.Path.{_≡_, sym, subst}
+use mathlib.Core.Logic.{_⊎_, inl, inr, _↔_, Iff·trans, Iff·symm}
+use mathlib.Core.List.{List, _∷_, _++_}
+use Rattle.rules.specs.Trail.{Trail}
+use Rattle.rules.specs.Paths.{CausalPath, Gains}
+use Rattle.rules.specs.History.{Item, kept, dropped, accepted, NoIntake, LatestIntake, Reached, fromIntake, fromZero}
+use Rattle.rules.specs.Backward.{BackwardMarks}
+use Rattle.causality.specs.Working.{Marked, Grown}
+use Rattle.causality.specs.Order.{OrderPath, upTo, above, since, Falling}
+use Rattle.causality.specs.Statements.{eventOf, IsKept, Faithful, Stable, Document01, Claims}
+use Rattle.causality.proofs.Reach.{reach-path, reach-part}
+use Rattle.causality.proofs.Parts.{upTo-part, since-part, since-none, since-intake, latest-intake}
+use Rattle.causality.proofs.Accepted.{grown-ordered}
+use Rattle.causality.proofs.Start.{start-some, start-one, version-walk}
+use Rattle.causality.proofs.Forward.{forward-reach}
+use Rattle.causality.proofs.Ancestors.{NoGain, dropped-gains-none}
+use Rattle.causality.proofs.Backward.{backward-reach}
+use Rattle.causality.proofs.Later.{upTo-same, above-part, above-since}
+use Rattle.causality.proofs.Log.{edge-count, logged, versions-le}
+use Rattle.causality.proofs.Intake.{intake-is-latest}
+use Rattle.causality.proofs.Strict.{falling-part, order-causal, earlier-falling}
+use Rattle.causality.proofs.PathsBy.{causal-by, causal-after}
+
+-- any working
+
+gain : {T : Trail} {hs : List Item} → Grown T hs → (later : List Item) (h : Item) (earlier : List Item) → hs ≡ later ++ (h ∷ earlier) → (x : ℕ)
+    → (OrderPath (accepted earlier) x (eventOf h .target .0) → ⊥) → OrderPath (accepted (h ∷ earlier)) x (eventOf h .target .0) → IsKept h
+gain g later h earlier q x = go h (dropped-gains-none g later h earlier q)
+  where
+    go : (h : Item) → NoGain h earlier → (OrderPath (accepted earlier) x (eventOf h .target .0) → ⊥)
+        → OrderPath (accepted (h ∷ earlier)) x (eventOf h .target .0) → IsKept h
+    go (kept e) z n p = tt
+    go (dropped e) z n p = n (reach-path (accepted earlier) x (e .target .0) .0 (z x (e .target .0) (reach-path (e ∷ accepted earlier) x (e .target .0) .1 p)))
+
+faithful : {T : Trail} {hs : List Item} → Grown T hs → Faithful T hs
+faithful {T} {hs} g =
+    record {
+      start = start-some g;
+      start-one = λ x t s r p q. start-one p q;
+      backward = λ v t s x h r. Iff·trans (backward-reach g t x v s h (version-walk g h r)) (reach-path (upTo t (accepted hs)) x v);
+      forward = λ u t s y h r. Iff·trans (forward-reach g u t s y h (version-walk g h r)) (reach-path (since u t hs) u y);
+      since-intake = λ u t l. since-intake l;
+      since-none = λ u t n. since-none u t hs n;
+      latest = λ u t. latest-intake u t hs;
+      intake = λ u t s h r. intake-is-latest g u t s h (version-walk g h r);
+      never-less = λ u t s y h r p.
+          forward-reach g u t s y h (version-walk g h r) .1
+          (reach-part (above-since u t hs (grown-ordered g)) u y (reach-path (above t (accepted hs)) u y .1 p));
+      gain = gain g;
+      edges = edge-count g;
+      log = logged g;
+      versions = versions-le g;
+    }
+
+stable : {T T′ : Trail} (hs more : List Item) → Grown T hs → Grown T′ (more ++ hs) → Stable T hs T′ more
+stable {T} {T′} hs more g g′ v t s r x h h′ p p′ l =
+    let o = subst (λ es. Marked T′ (BackwardMarks T′ r t) x ↔ OrderPath es x v) (upTo-same t more hs (grown-ordered g′) l) (faithful g′ .backward v t r x h′ p′) in
+    Iff·trans o (Iff·symm (faithful g .backward v t s x h p))
+
+-- document 01, where times rise strictly
+
+reached : (u t : ℕ) (hs : List Item) (y : ℕ) → CausalPath (since u t hs) u y ↔ Reached u t hs y
+reached u t hs y = (to (latest-intake u t hs), from)
+  where
+    to : LatestIntake u t hs ⊎ NoIntake u t hs → CausalPath (since u t hs) u y → Reached u t hs y
+    to (inl l) p = fromIntake l (subst (λ es. CausalPath es u y) (since-intake l) p)
+    to (inr n) p = fromZero n (subst (λ es. CausalPath es u y) (since-none u t hs n) p)
+
+    from : Reached u t hs y → CausalPath (since u t hs) u y
+    from (fromIntake l p) = subst (λ es. CausalPath es u y) (sym (since-intake l)) p
+    from (fromZero n p) = subst (λ es. CausalPath es u y) (sym (since-none u t hs n)) p
+
+causal-gain : {T : Trail} {hs : List Item} → Grown T hs → Falling (accepted hs) → (later : List Item) (h : Item) (earlier : List Item)
+    → hs ≡ later ++ (h ∷ earlier) → Gains (accepted earlier) (eventOf h) → IsKept h
+causal-gain {hs = hs} g f later h earlier q a = go h (earlier-falling later h earlier hs q f) (gain g later h earlier q) a
+  where
+    go : (h : Item) → Falling (accepted (h ∷ earlier)) × Falling (accepted earlier)
+        → ((x : ℕ) → (OrderPath (accepted earlier) x (eventOf h .target .0) → ⊥) → OrderPath (accepted (h ∷ earlier)) x (eventOf h .target .0) → IsKept h)
+        → Gains (accepted earlier) (eventOf h) → IsKept h
+    go (kept e) o k a = tt
+    go (dropped e) o k a =
+        k (a .ancestor)
+        (λ p. a .before (record { other = a .after .other; causal = order-causal (accepted earlier) (o .1) (a .ancestor) (e .target .0) .0 p }))
+        (order-causal (e ∷ accepted earlier) (o .0) (a .ancestor) (e .target .0) .1 (a .after .causal))
+
+document : {T : Trail} {hs : List Item} → Grown T hs → Falling (accepted hs) → Document01 T hs
+document {T} {hs} g f =
+    record {
+      backward = λ v t s x h r.
+          Iff·trans (faithful g .backward v t s x h r)
+          (Iff·trans (order-causal (upTo t (accepted hs)) (falling-part (upTo-part t (accepted hs)) f) x v) (causal-by t (accepted hs) x v));
+      forward = λ u t s y h r.
+          Iff·trans (faithful g .forward u t s y h r)
+          (Iff·trans (order-causal (since u t hs) (falling-part (since-part u t hs) f) u y) (reached u t hs y));
+      intake = faithful g .intake;
+      never-less = λ u t s y h r p.
+          faithful g .never-less u t s y h r (order-causal (above t (accepted hs)) (falling-part (above-part t (accepted hs)) f) u y .1 (causal-after t (accepted hs) u y p));
+      gain = causal-gain g f;
+    }
+
+pub claims : Claims
+claims = record { any-working = faithful; stable = stable; document01 = document }

@@ -1,0 +1,5 @@
+pub mod Arcs
+pub mod Collected
+pub mod Places
+pub mod Intake
+pub mod Same

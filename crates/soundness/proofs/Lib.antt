@@ -1,0 +1,22 @@
+-- Laws of tests, and of the loops that make them
+pub mod All
+pub mod Tests
+pub mod Edges
+-- Sound tables are those whose rows have the facts
+pub mod Facts
+pub mod Passes
+-- A record that is taken in, on rows by number
+pub mod Put
+pub mod Taken
+pub mod Extends
+pub mod Declared
+pub mod Kept
+pub mod Repeated
+pub mod Widened
+pub mod Renewed
+pub mod Step
+-- The same on lent tables, and a batch
+pub mod Written
+pub mod TableStep
+pub mod Decoded
+pub mod BatchStep

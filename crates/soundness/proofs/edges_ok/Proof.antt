@@ -1,0 +1,59 @@
+-- The invariant: every edge passed so far meets the test, and `before` is the time of the edge before. The measure is how many are left.
+use Prim.Native.Nat.{_≤_, _-_}
+use mathlib.Core.Path.{_≡_, refl}
+use mathlib.Core.Bool.{true}
+use Rattle.rows.specs.Rows.{edgeAt}
+use Rattle.rules.specs.Trail.{trailOf, tables}
+use Rattle.rules.specs.Sound.{allBelow, timeBefore, edgeTest}
+use Rattle.soundness.proofs.All.{all-end}
+use Rattle.soundness.proofs.Edges.{timeBefore-zero, time-next, edges-stop, edges-next}
+use borrow.Author.Needs.{needs}
+use native.Mathlib.Omega.{arith}
+use Rattle.soundness.proofs.edges_ok.Statement.{statement}
+use Rattle.soundness.proofs.edges_ok.Tie as tie
+
+abbrev Inv-loop : tie.InvT-loop
+Inv-loop c entities versions edges n before₀ k₀ before k = (k ≤ n) × (before ≡ timeBefore (edgeAt edges) k) × (allBelow (edgeTest (trailOf c (tables entities versions edges))) k ≡ true)
+
+abbrev μ-loop : tie.MeasureT-loop
+μ-loop c entities versions edges n before₀ k₀ before k = n - k
+
+loop-holds : tie.Need-loop-holds Inv-loop μ-loop
+unfolding allBelow
+loop-holds c = (omega arith, timeBefore-zero _, refl)
+
+edge-at-requires : tie.Need-edge-at-requires Inv-loop μ-loop
+edge-at-requires c κs = search needs
+
+edge-test-requires : tie.Need-edge-test-requires Inv-loop μ-loop
+edge-test-requires c κs = search needs
+
+add-k : tie.Need-add-k Inv-loop μ-loop
+add-k c = search needs
+
+loop-less : tie.Need-loop-less Inv-loop μ-loop
+loop-less c = search needs
+
+loop-again : tie.Need-loop-again Inv-loop μ-loop
+loop-again c = (omega arith, search time-next, search edges-next)
+
+returns : tie.Need-returns Inv-loop μ-loop
+returns c = search edges-stop
+
+returns-2 : tie.Need-returns-2 Inv-loop μ-loop
+returns-2 c = search all-end
+
+pub edges-ok-spec : {M : Type 1} → statement M
+edges-ok-spec =
+    tie.close
+    (tie.spec
+    Inv-loop
+    μ-loop
+    loop-holds
+    edge-at-requires
+    edge-test-requires
+    add-k
+    loop-less
+    loop-again
+    returns
+    returns-2)

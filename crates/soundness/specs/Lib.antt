@@ -1,0 +1,5 @@
+-- What sound tables and records that are taken in give
+pub mod Facts
+pub mod Taken
+-- What single functions compute
+pub mod Parts
