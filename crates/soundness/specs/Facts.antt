@@ -3,6 +3,7 @@ use Prim.Native.Nat.{ℕ, suc, _≤_, _<_}
 use mathlib.Core.Path.{_≡_}
 use mathlib.Core.Bool.{true, _||_}
 use Rattle.rows.specs.declared.Counts.{Counts}
+use Rattle.record.specs.Layout.{mostKind}
 use Rattle.rules.specs.Trail.{Capacity, Trail, none, mostAccepted, latestOf, ownerOf}
 use Rattle.rules.specs.Sound.{isObject, isSubject, sourceFits, targetFits}
 
@@ -33,7 +34,7 @@ pub record EdgeFacts (T : Trail) (k : ℕ) : Type 0 where
   pub to-in : T .edge k .to .0 < T .counts .versions
   pub apart : ownerOf T (T .edge k .from .0) ≡ ownerOf T (T .edge k .to .0) → ⊥
   pub kind-low : 1 ≤ T .edge k .kind
-  pub kind-high : T .edge k .kind ≤ 5
+  pub kind-high : T .edge k .kind ≤ mostKind
   pub source-fits : sourceFits (T .edge k .kind) (T .entity (ownerOf T (T .edge k .from .0)) .sort) ≡ true
   pub target-fits : targetFits (T .edge k .kind) (T .entity (ownerOf T (T .edge k .to .0)) .sort) ≡ true
   pub time-low : 1 ≤ T .edge k .time

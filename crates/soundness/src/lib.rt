@@ -26,6 +26,8 @@ const WRITE: u32 = 2;
 
 const FORK: u32 = 4;
 
+const MOST_KIND: u32 = 5;
+
 // Whether an entity of this sort may be the source of an event of this kind, or the target.
 pub fn source_fits(kind: u32, sort: u32) -> bool
     ensures { λ z. ⌜ z ≡ sourceFits kind sort ⌝ }
@@ -129,7 +131,7 @@ fn edge_ok(
     if e.kind < 1 {
         return false;
     }
-    if 5 < e.kind {
+    if MOST_KIND < e.kind {
         return false;
     }
     if !source_fits(e.kind, s.sort) {

@@ -1,0 +1,103 @@
+//! Traces by causal paths.
+
+use crate::answers::{BackwardAnswer, ForwardAnswer};
+use crate::causal::{leading_to, reached_from};
+use crate::full_list::FullList;
+use crate::record::Event;
+use crate::refusal;
+use std::collections::BTreeSet;
+
+impl FullList {
+    /// The entities with a causal path to this one in by the time.
+    pub fn backward_entities(&self, entity: u16, time: u32) -> BTreeSet<u16> {
+        let mut events = self.events();
+        events.retain(|event| event.time <= time);
+        leading_to(entity, &events)
+    }
+
+    /// The entities reached from the latest kept intake at or before the time
+    /// through events accepted after it alone; from time 0 by any causal path.
+    pub fn forward_entities(&self, entity: u16, time: u32) -> BTreeSet<u16> {
+        let mut events = self.events();
+        if let Some(intake) = self.latest_intake(entity, time) {
+            events.retain(|event| event.time > intake.time);
+        }
+        reached_from(entity, &events)
+    }
+
+    /// The latest kept intake of the entity at or before the time.
+    pub fn latest_intake(&self, entity: u16, time: u32) -> Option<Event> {
+        let mut kept = self.kept_events();
+        kept.retain(|event| event.target == entity && event.time <= time);
+        kept.last().copied()
+    }
+
+    /// Whether the accepted event with this index, from 0, gives its target
+    /// an ancestor.
+    pub fn gains_ancestor(&self, index: usize) -> bool {
+        let events = self.events();
+        let target = events[index].target;
+        leading_to(target, &events[..index]) != leading_to(target, &events[..=index])
+    }
+
+    /// The backward trace, without the bytes of the work buffer.
+    pub fn backward(
+        &self,
+        entity: u32,
+        time: u32,
+        work_length: usize,
+        marks: &mut [u8],
+    ) -> BackwardAnswer {
+        let refusal = self.trace_refusal(entity, work_length, marks.len());
+        if refusal != refusal::NONE {
+            return BackwardAnswer { refusal, count: 0 };
+        }
+        let entities = self.backward_entities(entity as u16, time);
+        let count = self.write_marks(&entities, marks);
+        BackwardAnswer { refusal, count }
+    }
+
+    /// The forward trace, without the bytes of the work buffer.
+    pub fn forward(
+        &self,
+        entity: u32,
+        time: u32,
+        work_length: usize,
+        marks: &mut [u8],
+    ) -> ForwardAnswer {
+        let refusal = self.trace_refusal(entity, work_length, marks.len());
+        if refusal != refusal::NONE {
+            return ForwardAnswer {
+                refusal,
+                count: 0,
+                intake: 0,
+            };
+        }
+        let entities = self.forward_entities(entity as u16, time);
+        let latest_intake = self.latest_intake(entity as u16, time);
+        ForwardAnswer {
+            refusal,
+            count: self.write_marks(&entities, marks),
+            intake: latest_intake.map_or(0, |event| event.time),
+        }
+    }
+
+    /// The first of 5 and 14 to hold, or 0.
+    fn trace_refusal(&self, entity: u32, work_length: usize, marks_length: usize) -> u32 {
+        if entity as usize >= self.sorts.len() {
+            return refusal::UNDECLARED;
+        }
+        if work_length < self.version_count() || marks_length < self.sorts.len() {
+            return refusal::BUFFER;
+        }
+        refusal::NONE
+    }
+
+    fn write_marks(&self, entities: &BTreeSet<u16>, marks: &mut [u8]) -> u32 {
+        let in_use = &mut marks[..self.sorts.len()];
+        for (number, mark) in in_use.iter_mut().enumerate() {
+            *mark = u8::from(entities.contains(&(number as u16)));
+        }
+        entities.len() as u32
+    }
+}

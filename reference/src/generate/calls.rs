@@ -1,0 +1,149 @@
+//! Calls on given tables, and lists of calls that start from a fresh trail.
+
+use crate::answers::Counts;
+use crate::call::Call;
+use crate::capacity::{Capacity, TableLengths, MOST_EDGES, MOST_ENTITIES, MOST_VERSIONS};
+use crate::full_list::FullList;
+use crate::generate::files::any_file;
+use crate::generate::lengths::{odd_lengths, roomy_lengths, tiny_lengths};
+use crate::generate::records::RecordSource;
+use crate::random::Random;
+use crate::tables::Tables;
+
+/// A call of a list and the lengths of the tables lent to it.
+#[derive(Clone, Debug, PartialEq, Eq)]
+pub struct LentCall {
+    pub lengths: TableLengths,
+    pub call: Call,
+}
+
+/// A list of batches and traces, refused ones among them. Each call's tables
+/// hold the rows in use after the calls before it.
+pub fn call_list(random: &mut Random, calls: usize) -> Vec<LentCall> {
+    let mut list = FullList::new();
+    let mut lent_calls = Vec::new();
+    for _ in 0..calls {
+        let lengths = lengths_of_call(random, list.counts());
+        let call = if random.one_in(2) {
+            batch_after(random, &mut list, lengths)
+        } else {
+            trace(random, list.counts())
+        };
+        lent_calls.push(LentCall { lengths, call });
+    }
+    lent_calls
+}
+
+/// A batch that goes on from the list; the list takes it in.
+fn batch_after(random: &mut Random, list: &mut FullList, lengths: TableLengths) -> Call {
+    let records = random.below(24);
+    let file = any_file(random, &mut RecordSource::after_list(list), records);
+    list.batch(Capacity::of(lengths), &file);
+    Call::Batch { file }
+}
+
+fn lengths_of_call(random: &mut Random, counts: Counts) -> TableLengths {
+    match random.below(4) {
+        0 => tiny_lengths(random, counts),
+        1 => odd_lengths(random, counts),
+        _ => roomy_lengths(counts),
+    }
+}
+
+/// Any call on these tables, sound or not.
+pub fn any_call(random: &mut Random, tables: &Tables) -> Call {
+    match random.below(4) {
+        0 => Call::KeptLog {
+            out: output(random, tables.counts),
+        },
+        1 => batch_on(random, tables),
+        _ => trace(random, tables.counts),
+    }
+}
+
+/// A batch of any file that goes on from the tables. Tables too short to hold
+/// their rows get a file that starts from fresh.
+pub fn batch_on(random: &mut Random, tables: &Tables) -> Call {
+    let rows_fit = tables.counts.entities as usize <= tables.view().capacity().entities;
+    let mut source = if rows_fit {
+        RecordSource::after_tables(tables)
+    } else {
+        RecordSource::fresh()
+    };
+    let records = random.below(16);
+    Call::Batch {
+        file: any_file(random, &mut source, records),
+    }
+}
+
+/// A backward or forward trace: mostly of a declared entity, with buffers
+/// that are mostly long enough.
+pub fn trace(random: &mut Random, counts: Counts) -> Call {
+    let entity = trace_entity(random, counts.entities);
+    let time = trace_time(random, counts.last);
+    let work = buffer(random, counts.versions as usize);
+    let marks = buffer(random, counts.entities as usize);
+    if random.one_in(2) {
+        Call::Backward {
+            entity,
+            time,
+            work,
+            marks,
+        }
+    } else {
+        Call::Forward {
+            entity,
+            time,
+            work,
+            marks,
+        }
+    }
+}
+
+fn trace_entity(random: &mut Random, entities: u32) -> u32 {
+    match random.below(16) {
+        0 => entities,
+        1 => random.number(),
+        2 => u32::MAX,
+        _ => random.below(entities.max(1) as usize) as u32,
+    }
+}
+
+fn trace_time(random: &mut Random, last: u32) -> u32 {
+    match random.below(12) {
+        0 => 0,
+        1 => last,
+        2 => last.saturating_add(1),
+        3 => u32::MAX,
+        _ => random.between(0, last),
+    }
+}
+
+/// A buffer for this many bytes or a few more; at times a byte or more short.
+/// A count above every cap gets a small buffer.
+fn buffer(random: &mut Random, count: usize) -> Vec<u8> {
+    let count = if count > MOST_VERSIONS { 40 } else { count };
+    let length = match random.below(12) {
+        0 => count.saturating_sub(1),
+        1 => random.below(count + 1),
+        _ => count + random.below(4),
+    };
+    random.bytes(length)
+}
+
+/// An output for the kept log, now and then a byte or more short. Counts above
+/// the caps get a small output.
+fn output(random: &mut Random, counts: Counts) -> Vec<u8> {
+    let (entities, edges) = (counts.entities as usize, counts.edges as usize);
+    if entities > MOST_ENTITIES || edges > MOST_EDGES {
+        return random.bytes(100);
+    }
+    let log = 8 + 12 * (entities + edges);
+    let length = match random.below(6) {
+        0 => log - 1,
+        1 => random.below(log),
+        2 => log,
+        _ => log + random.below(20),
+    };
+    random.bytes(length)
+}

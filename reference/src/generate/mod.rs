@@ -1,0 +1,26 @@
+//! Event files, tables and calls to try a trail on. All come from a
+//! [`Random`](crate::Random), so the same seed gives the same ones.
+
+pub mod batch_faults;
+pub mod calls;
+pub mod files;
+pub mod full_tables;
+pub mod grown_tables;
+pub mod lengths;
+pub mod records;
+pub mod refused_batches;
+pub mod shapes;
+pub mod sound_tables;
+pub mod unsound_tables;
+
+pub use batch_faults::BatchFault;
+pub use calls::{any_call, call_list, LentCall};
+pub use files::{any_file, careless_file, cut_file, damaged_file, event_file};
+pub use full_tables::{tables_with_edges, tables_with_entities, tables_with_versions};
+pub use grown_tables::grown_tables;
+pub use lengths::{any_lengths, every_length, lend_anew, odd_lengths, roomy_lengths, tiny_lengths};
+pub use records::RecordSource;
+pub use refused_batches::{refused_batch, RefusedBatch};
+pub use shapes::Shape;
+pub use sound_tables::{sound_tables, sound_tables_of_shape};
+pub use unsound_tables::{unsound_tables, unsound_tables_by_one_number};

@@ -1,0 +1,123 @@
+//! Records that a trail takes in, row capacity aside.
+
+use crate::full_list::FullList;
+use crate::random::Random;
+use crate::record::{Declaration, Event, Kind, Record, Sort};
+use crate::tables::Tables;
+
+/// Few entities, so that events repeat.
+const FEW_ENTITIES: usize = 6;
+
+/// What the next record must agree with, and the events to repeat.
+#[derive(Clone, Debug, Default)]
+pub struct RecordSource {
+    pub sorts: Vec<Sort>,
+    pub last: u32,
+    pub events: Vec<Event>,
+}
+
+impl RecordSource {
+    pub fn fresh() -> RecordSource {
+        RecordSource::default()
+    }
+
+    /// Goes on from sound tables.
+    pub fn after_tables(tables: &Tables) -> RecordSource {
+        let rows = tables.view().entity_rows();
+        let sorts = rows.filter_map(|row| Sort::from_number(row.sort));
+        RecordSource {
+            sorts: sorts.collect(),
+            last: tables.counts.last,
+            events: Vec::new(),
+        }
+    }
+
+    /// Goes on from a full list.
+    pub fn after_list(list: &FullList) -> RecordSource {
+        RecordSource {
+            sorts: list.sorts.clone(),
+            last: list.last_time(),
+            events: list.events(),
+        }
+    }
+
+    /// The next record. It is noted as taken in.
+    pub fn record(&mut self, random: &mut Random) -> Record {
+        let few = self.sorts.len() < FEW_ENTITIES;
+        if few && random.one_in(2 + self.sorts.len()) {
+            return self.declaration(random);
+        }
+        match self.event(random) {
+            Some(event) => Record::Event(event),
+            None => self.declaration(random),
+        }
+    }
+
+    pub fn records(&mut self, random: &mut Random, count: usize) -> Vec<Record> {
+        (0..count).map(|_| self.record(random)).collect()
+    }
+
+    /// A declaration of either sort.
+    pub fn declaration(&mut self, random: &mut Random) -> Record {
+        let sort = Sort::ALL[random.below(2)];
+        self.declaration_of(sort)
+    }
+
+    /// A declaration of this sort.
+    pub fn declaration_of(&mut self, sort: Sort) -> Record {
+        let number = self.sorts.len() as u16;
+        self.sorts.push(sort);
+        Record::Declaration(Declaration { number, sort })
+    }
+
+    /// An event of these, at a later time.
+    pub fn event_of(&mut self, random: &mut Random, kind: Kind, source: u16, target: u16) -> Event {
+        let event = Event {
+            kind,
+            source,
+            target,
+            time: self.later_time(random),
+        };
+        self.note(event);
+        event
+    }
+
+    /// An event, none if no two entities or no time will do. Half of the
+    /// events go the way of an earlier one.
+    fn event(&mut self, random: &mut Random) -> Option<Event> {
+        if self.last == u32::MAX {
+            return None;
+        }
+        let earlier = random.pick(&self.events);
+        let (kind, source, target) = match earlier {
+            Some(event) if random.one_in(2) => (event.kind, event.source, event.target),
+            _ => self.way(random)?,
+        };
+        Some(self.event_of(random, kind, source, target))
+    }
+
+    /// A kind, a source and a target that go together.
+    fn way(&self, random: &mut Random) -> Option<(Kind, u16, u16)> {
+        let kind = random.pick(&Kind::ALL)?;
+        let source = random.pick(&self.entities_of(kind.sorts().0))?;
+        let mut targets = self.entities_of(kind.sorts().1);
+        targets.retain(|target| *target != source);
+        Some((kind, source, random.pick(&targets)?))
+    }
+
+    fn entities_of(&self, sort: Sort) -> Vec<u16> {
+        let numbers = 0..self.sorts.len();
+        let of_sort = numbers.filter(|number| self.sorts[*number] == sort);
+        of_sort.map(|number| number as u16).collect()
+    }
+
+    /// A time one to three hundredths after the last.
+    fn later_time(&self, random: &mut Random) -> u32 {
+        self.last.saturating_add(random.between(1, 3))
+    }
+
+    fn note(&mut self, event: Event) {
+        self.last = event.time;
+        self.events.push(event);
+    }
+}

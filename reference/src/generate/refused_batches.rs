@@ -1,0 +1,251 @@
+//! Batches refused with a number known beforehand.
+
+use crate::capacity::{TableLengths, MOST_ACCEPTED};
+use crate::file::{HEADER, HEADER_BYTES};
+use crate::file_builder::FileBuilder;
+use crate::generate::batch_faults::BatchFault;
+use crate::generate::grown_tables::grown_tables;
+use crate::generate::lengths::{lend_anew, roomy_lengths};
+use crate::generate::records::RecordSource;
+use crate::random::Random;
+use crate::record::{encode, Event, Kind, Record, Sort, RECORD_BYTES};
+use crate::tables::Tables;
+
+/// A batch and the answer it gets.
+#[derive(Clone, Debug)]
+pub struct RefusedBatch {
+    pub tables: Tables,
+    pub file: Vec<u8>,
+    pub refusal: u32,
+    pub taken: u32,
+}
+
+/// A batch refused for this fault: records that are taken in, then the one at
+/// fault, then others never reached.
+pub fn refused_batch(random: &mut Random, fault: BatchFault) -> RefusedBatch {
+    let base = Base::new(random);
+    let file = FileBuilder::new().records(&base.records);
+    let file = file.raw(&bytes_at_fault(random, &base, fault));
+    let is_header_fault = fault.refusal() <= 2;
+    RefusedBatch {
+        tables: base.tables_for(random, fault),
+        file: with_header_fault(random, file.bytes(), fault),
+        refusal: fault.refusal(),
+        taken: if is_header_fault {
+            0
+        } else {
+            base.records.len() as u32
+        },
+    }
+}
+
+/// A grown trail and records it takes in. After them `object`, `subject` and
+/// `written` are the last entities, and the last event is the write from
+/// `subject` to `written`, the only event of the three.
+struct Base {
+    tables: Tables,
+    records: Vec<Record>,
+    after: Tables,
+    object: u16,
+    subject: u16,
+    written: u16,
+}
+
+impl Base {
+    fn new(random: &mut Random) -> Base {
+        let count = random.below(30);
+        let grown = grown_tables(random, count);
+        let tables = lend_anew(random, &grown, roomy_lengths(grown.counts));
+        let mut source = RecordSource::after_tables(&tables);
+        let count = random.below(6);
+        let mut records = source.records(random, count);
+        for sort in [Sort::Object, Sort::Subject, Sort::Object] {
+            records.push(source.declaration_of(sort));
+        }
+        let written = source.sorts.len() as u16 - 1;
+        let (object, subject) = (written - 2, written - 1);
+        let write = source.event_of(random, Kind::Write, subject, written);
+        records.push(Record::Event(write));
+        Base {
+            after: taken_in(&tables, &records),
+            tables,
+            records,
+            object,
+            subject,
+            written,
+        }
+    }
+
+    /// The tables before the file, with no row left after its good records
+    /// where the fault asks for that.
+    fn tables_for(&self, random: &mut Random, fault: BatchFault) -> Tables {
+        let mut lengths = roomy_lengths(self.after.counts);
+        let full = full_lengths(&self.after);
+        if fault.fills_entities() {
+            lengths.entities = full.entities + random.below(2);
+        }
+        if fault.fills_versions() {
+            lengths.versions = full.versions + random.below(4);
+        }
+        if fault.fills_edges() {
+            lengths.edges = full.edges + random.below(4);
+        }
+        let mut tables = lend_anew(random, &self.tables, lengths);
+        if fault.fills_accepted() {
+            let added = self.after.counts.accepted - self.tables.counts.accepted;
+            tables.counts.accepted = MOST_ACCEPTED - added;
+        }
+        tables
+    }
+
+    /// An event at a time above the last.
+    fn event(&self, kind: Kind, source: u16, target: u16) -> Event {
+        Event {
+            kind,
+            source,
+            target,
+            time: self.after.counts.last + 1,
+        }
+    }
+
+    /// The next number to declare.
+    fn next(&self) -> u16 {
+        self.written + 1
+    }
+}
+
+fn taken_in(tables: &Tables, records: &[Record]) -> Tables {
+    let mut after = tables.clone();
+    let answer = after.batch(&FileBuilder::new().records(records).bytes());
+    assert_eq!((answer.refusal, answer.taken), (0, records.len() as u32));
+    after
+}
+
+/// Lengths that hold the rows in use and no more.
+fn full_lengths(tables: &Tables) -> TableLengths {
+    let counts = tables.counts;
+    TableLengths::of_rows(
+        counts.entities as usize,
+        counts.versions as usize,
+        counts.edges as usize,
+    )
+}
+
+/// The file with its header as the fault asks.
+fn with_header_fault(random: &mut Random, mut file: Vec<u8>, fault: BatchFault) -> Vec<u8> {
+    let other = random.between(1, 255) as u8;
+    let mark = random.below(3);
+    let version = 3 + random.below(2);
+    let zero = 5 + random.below(3);
+    match fault {
+        BatchFault::EmptyFile => file.clear(),
+        BatchFault::ShortHeader => file.truncate(1 + random.below(HEADER_BYTES - 1)),
+        BatchFault::Mark => file[mark] ^= other,
+        BatchFault::HeaderZero => file[zero] = other,
+        BatchFault::FileVersion => file[version] ^= other,
+        BatchFault::MarkAndFileVersion => {
+            file[mark] ^= other;
+            file[version] ^= other;
+        }
+        BatchFault::HeaderZeroAndFileVersion => {
+            file[zero] = other;
+            file[version] ^= other;
+        }
+        _ => assert_eq!(file[..HEADER_BYTES], HEADER),
+    }
+    file
+}
+
+/// The bytes after the good records: the record at fault and those after it.
+fn bytes_at_fault(random: &mut Random, base: &Base, fault: BatchFault) -> Vec<u8> {
+    let record = record_at_fault(random, base, fault);
+    if fault == BatchFault::CutRecord {
+        return record[..1 + random.below(RECORD_BYTES - 1)].to_vec();
+    }
+    let mut bytes = record.to_vec();
+    let after = random.below(3 * RECORD_BYTES);
+    bytes.extend(random.bytes(after));
+    bytes
+}
+
+fn record_at_fault(random: &mut Random, base: &Base, fault: BatchFault) -> [u8; RECORD_BYTES] {
+    match fault.refusal() {
+        4 => record_with_field_fault(random, base, fault),
+        6 | 10 => declaration_at_fault(base, fault),
+        _ if fault == BatchFault::NoVersionRowForDeclaration => declaration_at_fault(base, fault),
+        _ => encode(Record::Event(event_at_fault(base, fault))),
+    }
+}
+
+fn record_with_field_fault(
+    random: &mut Random,
+    base: &Base,
+    fault: BatchFault,
+) -> [u8; RECORD_BYTES] {
+    let other = random.between(1, 255) as u8;
+    let event = base.event(Kind::Write, base.subject, base.object);
+    let mut event = encode(Record::Event(event));
+    let mut declaration = [0; RECORD_BYTES];
+    declaration[2..4].copy_from_slice(&base.next().to_le_bytes());
+    let event_fields = [1, 6, 7];
+    match fault {
+        BatchFault::Kind => event[0] = random.between(6, 255) as u8,
+        BatchFault::KindAndUndeclared => {
+            event[0] = 6;
+            event[2] = 255;
+        }
+        BatchFault::EventZeroField => event[event_fields[random.below(3)]] = other,
+        BatchFault::Sort => declaration[1] = random.between(2, 255) as u8,
+        BatchFault::SortAndNotNext => {
+            declaration[1] = 2;
+            declaration[2] = 255;
+        }
+        _ => declaration[4 + random.below(8)] = other,
+    }
+    match fault {
+        BatchFault::Kind | BatchFault::KindAndUndeclared | BatchFault::EventZeroField => event,
+        _ => declaration,
+    }
+}
+
+fn declaration_at_fault(base: &Base, fault: BatchFault) -> [u8; RECORD_BYTES] {
+    let number = match fault {
+        BatchFault::NumberDeclaredBefore => base.written,
+        BatchFault::NumberTooHigh | BatchFault::NotNextAndNoEntityRow => base.next() + 1,
+        _ => base.next(),
+    };
+    let mut bytes = [0; RECORD_BYTES];
+    bytes[2..4].copy_from_slice(&number.to_le_bytes());
+    bytes
+}
+
+fn event_at_fault(base: &Base, fault: BatchFault) -> Event {
+    let (object, subject, written) = (base.object, base.subject, base.written);
+    let next = base.next();
+    let event = match fault {
+        BatchFault::SourceUndeclared => base.event(Kind::Read, next, subject),
+        BatchFault::TargetUndeclared => base.event(Kind::Write, subject, next),
+        BatchFault::BothUndeclared => base.event(Kind::Read, next, next + 1),
+        BatchFault::UndeclaredToItself => base.event(Kind::Fork, next, next),
+        BatchFault::SourceIsTarget => base.event(Kind::Fork, subject, subject),
+        BatchFault::SourceIsTargetOfWrongSort => base.event(Kind::Write, object, object),
+        BatchFault::SourceSort => base.event(Kind::Fork, object, subject),
+        BatchFault::TargetSort | BatchFault::WrongSortAndTime => {
+            base.event(Kind::Fork, subject, written)
+        }
+        BatchFault::BothSorts => base.event(Kind::Write, object, subject),
+        BatchFault::AcceptedFullAtRepeat => base.event(Kind::Write, subject, written),
+        BatchFault::NoVersionRowForEvent | BatchFault::NoEdgeRowAndNoVersionRow => {
+            base.event(Kind::Read, object, subject)
+        }
+        _ => base.event(Kind::Write, subject, object),
+    };
+    let last = base.after.counts.last;
+    let time = match fault {
+        BatchFault::TimeSame => last,
+        BatchFault::TimeLower | BatchFault::TimeAndAcceptedFull => last - 1,
+        BatchFault::TimeZero | BatchFault::WrongSortAndTime => 0,
+        _ => event.time,
+    };
+    Event { time, ..event }
+}

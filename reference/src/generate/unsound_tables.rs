@@ -1,0 +1,218 @@
+//! Unsound tables, one broken clause at a time.
+
+use crate::capacity::{EDGE_ROW, ENTITY_ROW, MOST_ACCEPTED, VERSION_ROW};
+use crate::generate::sound_tables::sound_tables;
+use crate::random::Random;
+use crate::record::Kind;
+use crate::rows::NO_VERSION;
+use crate::sound::{broken_clauses, Clause};
+use crate::tables::Tables;
+
+/// Tables in which this clause does not hold and all others do.
+pub fn unsound_tables(random: &mut Random, clause: Clause) -> Tables {
+    loop {
+        let mut tables = sound_tables(random);
+        let changed = break_clause(random, &mut tables, clause);
+        if changed.is_some() && broken_clauses(tables.view()) == [clause] {
+            return tables;
+        }
+    }
+}
+
+/// Tables that are sound but for one number in a row in use or in the counts.
+/// Several clauses may be broken.
+pub fn unsound_tables_by_one_number(random: &mut Random) -> Tables {
+    loop {
+        let mut tables = sound_tables(random);
+        change_one_number(random, &mut tables);
+        if !broken_clauses(tables.view()).is_empty() {
+            return tables;
+        }
+    }
+}
+
+fn change_one_number(random: &mut Random, tables: &mut Tables) {
+    let counts = &mut tables.counts;
+    let in_use = [counts.entities, counts.versions, counts.edges].map(|count| count as usize);
+    let mut numbers: Vec<&mut u32> = Vec::new();
+    numbers.extend(&mut tables.entities[..in_use[0] * ENTITY_ROW]);
+    numbers.extend(&mut tables.versions[..in_use[1] * VERSION_ROW]);
+    numbers.extend(&mut tables.edges[..in_use[2] * EDGE_ROW]);
+    numbers.push(&mut counts.entities);
+    numbers.push(&mut counts.versions);
+    numbers.push(&mut counts.edges);
+    numbers.push(&mut counts.accepted);
+    numbers.push(&mut counts.last);
+    let place = random.below(numbers.len());
+    let number = numbers.swap_remove(place);
+    *number = match random.below(4) {
+        0 => random.number(),
+        1 => number.wrapping_add(1),
+        2 => number.wrapping_sub(1),
+        _ => number_from(random, 0),
+    };
+}
+
+/// Changes the tables so that the clause may no longer hold; none if they
+/// have no row for it.
+fn break_clause(random: &mut Random, tables: &mut Tables, clause: Clause) -> Option<()> {
+    break_count(random, tables, clause)
+        .or_else(|| break_entity(random, tables, clause))
+        .or_else(|| break_version(random, tables, clause))
+        .or_else(|| break_previous(random, tables, clause))
+        .or_else(|| break_edge_end(random, tables, clause))
+        .or_else(|| break_edge(random, tables, clause))
+}
+
+fn break_count(random: &mut Random, tables: &mut Tables, clause: Clause) -> Option<()> {
+    let counts = &mut tables.counts;
+    match clause {
+        Clause::EntitiesWithinCapacity => break_capacity(
+            random,
+            &mut counts.entities,
+            &mut tables.entities,
+            ENTITY_ROW,
+        ),
+        Clause::VersionsWithinCapacity => break_capacity(
+            random,
+            &mut counts.versions,
+            &mut tables.versions,
+            VERSION_ROW,
+        ),
+        Clause::EdgesWithinCapacity => {
+            break_capacity(random, &mut counts.edges, &mut tables.edges, EDGE_ROW)
+        }
+        Clause::EdgesAtMostAccepted => {
+            counts.accepted = random.below(some_row(counts.edges)?) as u32;
+            Some(())
+        }
+        Clause::AcceptedAtMostMillion => {
+            counts.accepted = number_from(random, MOST_ACCEPTED + 1);
+            Some(())
+        }
+        _ => None,
+    }
+}
+
+/// Raises the count above the whole rows lent, or cuts the table so that its
+/// last row in use is no longer whole.
+fn break_capacity(
+    random: &mut Random,
+    count: &mut u32,
+    table: &mut Vec<u32>,
+    row: usize,
+) -> Option<()> {
+    if random.one_in(2) {
+        *count = number_from(random, (table.len() / row) as u32 + 1);
+    } else {
+        let whole = some_row(*count)? * row;
+        table.truncate(whole - 1 - random.below(row));
+    }
+    Some(())
+}
+
+fn break_entity(random: &mut Random, tables: &mut Tables, clause: Clause) -> Option<()> {
+    let entity = random.below(some_row(tables.counts.entities)?) * ENTITY_ROW;
+    match clause {
+        Clause::SortIsZeroOrOne => tables.entities[entity] = number_from(random, 2),
+        Clause::LatestExists => {
+            tables.entities[entity + 1] = number_from(random, tables.counts.versions)
+        }
+        Clause::LatestIsOfThatEntity => tables.entities[entity + 1] = any_version(random, tables)?,
+        _ => return None,
+    }
+    Some(())
+}
+
+fn break_version(random: &mut Random, tables: &mut Tables, clause: Clause) -> Option<()> {
+    let number = any_version(random, tables)?;
+    let first = number as usize * VERSION_ROW;
+    let row = tables.view().version(number);
+    match clause {
+        Clause::VersionEntityExists => {
+            tables.versions[first] = number_from(random, tables.counts.entities)
+        }
+        Clause::StartAtMostEnd => {
+            tables.versions[first + 2] = random.below(some_row(row.start)?) as u32
+        }
+        Clause::EndAtMostLast => {
+            tables.versions[first + 2] = number_from(random, tables.counts.last.checked_add(1)?)
+        }
+        _ => return None,
+    }
+    Some(())
+}
+
+fn break_previous(random: &mut Random, tables: &mut Tables, clause: Clause) -> Option<()> {
+    let number = any_version(random, tables)?;
+    let previous = match clause {
+        Clause::NoPreviousWhereStartIsZero
+        | Clause::PreviousIsOfSameEntity
+        | Clause::PreviousHasLowerStart => any_version(random, tables)?,
+        Clause::PreviousWhereStartIsNotZero => NO_VERSION,
+        Clause::PreviousHasLowerNumber => number_from(random, number),
+        _ => return None,
+    };
+    let first = number as usize * VERSION_ROW;
+    tables.versions[first + 3] = previous;
+    if clause == Clause::PreviousHasLowerStart && random.one_in(2) {
+        tables.versions[first + 1] = tables.view().version(previous).start;
+    }
+    Some(())
+}
+
+/// Gives an edge another version at one of its ends.
+fn break_edge_end(random: &mut Random, tables: &mut Tables, clause: Clause) -> Option<()> {
+    let first = random.below(some_row(tables.counts.edges)?) * EDGE_ROW;
+    match clause {
+        Clause::FromExists => tables.edges[first] = number_from(random, tables.counts.versions),
+        Clause::ToExists => tables.edges[first + 1] = number_from(random, tables.counts.versions),
+        Clause::SourceHasSortOfKind => tables.edges[first] = any_version(random, tables)?,
+        Clause::TargetHasSortOfKind => tables.edges[first + 1] = any_version(random, tables)?,
+        Clause::EdgeJoinsTwoEntities => {
+            tables.edges[first] = any_version(random, tables)?;
+            tables.edges[first + 1] = any_version(random, tables)?;
+            tables.edges[first + 2] = Kind::Fork.number();
+        }
+        _ => return None,
+    }
+    Some(())
+}
+
+/// Gives an edge another kind or time.
+fn break_edge(random: &mut Random, tables: &mut Tables, clause: Clause) -> Option<()> {
+    let count = some_row(tables.counts.edges)?;
+    let first = random.below(count) * EDGE_ROW;
+    match clause {
+        Clause::KindIsOneToFive if random.one_in(2) => tables.edges[first + 2] = 0,
+        Clause::KindIsOneToFive => tables.edges[first + 2] = number_from(random, 6),
+        Clause::EdgeTimeAtLeastOne => tables.edges[3] = 0,
+        Clause::EdgeTimeAtMostLast => {
+            let last_edge = (count - 1) * EDGE_ROW;
+            tables.edges[last_edge + 3] = number_from(random, tables.counts.last.checked_add(1)?)
+        }
+        Clause::EdgeTimesRise => {
+            tables.edges[first + 3] = random.between(1, tables.counts.last.max(1))
+        }
+        _ => return None,
+    }
+    Some(())
+}
+
+/// The count, if it is not 0.
+fn some_row(count: u32) -> Option<usize> {
+    (count > 0).then_some(count as usize)
+}
+
+fn any_version(random: &mut Random, tables: &Tables) -> Option<u32> {
+    Some(random.below(some_row(tables.counts.versions)?) as u32)
+}
+
+/// A number not below `low`, mostly close to it.
+fn number_from(random: &mut Random, low: u32) -> u32 {
+    match random.below(4) {
+        0 => u32::MAX,
+        1 => random.between(low, u32::MAX),
+        _ => low.saturating_add(random.between(0, 2)),
+    }
+}

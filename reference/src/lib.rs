@@ -1,0 +1,43 @@
+//! A plain trail.
+//!
+//! It takes event files in batches, keeps versions and edges in lent tables,
+//! answers backward and forward traces and writes the kept log. Every rule is
+//! carried out literally, with no thought for speed.
+//!
+//! - The calls over lent tables: [`batch()`], [`backward()`], [`forward()`],
+//!   [`kept_log()`].
+//! - The trail over the full list of accepted events: [`FullList`].
+//! - The text of the listing program: [`listing()`].
+//! - Files and tables to try them on: [`FileBuilder`] and [`generate`].
+
+pub mod answers;
+pub mod batch;
+pub mod call;
+pub mod capacity;
+pub mod causal;
+pub mod file;
+pub mod file_builder;
+pub mod full_list;
+pub mod generate;
+pub mod kept_log;
+pub mod listing;
+pub mod random;
+pub mod record;
+pub mod refusal;
+pub mod rows;
+pub mod sound;
+pub mod tables;
+pub mod trace;
+
+pub use answers::{BackwardAnswer, BatchAnswer, Counts, ForwardAnswer, LogAnswer};
+pub use batch::batch;
+pub use call::{Answer, Call};
+pub use capacity::{Capacity, TableLengths};
+pub use file_builder::FileBuilder;
+pub use full_list::FullList;
+pub use kept_log::kept_log;
+pub use listing::listing;
+pub use random::Random;
+pub use record::{Declaration, Event, Kind, Record, Sort};
+pub use tables::{TableView, Tables};
+pub use trace::{backward, forward};

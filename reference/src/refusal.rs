@@ -1,0 +1,36 @@
+//! The refusal numbers.
+
+/// Not refused.
+pub const NONE: u32 = 0;
+/// Under 8 bytes, or the mark or the three zero bytes differ.
+pub const HEADER: u32 = 1;
+/// The file's version is not 1.
+pub const FILE_VERSION: u32 = 2;
+/// One to 11 bytes remain.
+pub const CUT_RECORD: u32 = 3;
+/// Kind above 5, sort above 1, or a zero field not 0.
+pub const FIELD: u32 = 4;
+/// Entity not declared.
+pub const UNDECLARED: u32 = 5;
+/// The declared number is not the next.
+pub const NOT_NEXT: u32 = 6;
+/// Source equals target.
+pub const SAME_ENTITY: u32 = 7;
+/// Source or target of the wrong sort.
+pub const WRONG_SORT: u32 = 8;
+/// Time not above the last accepted time.
+pub const TIME: u32 = 9;
+/// No entity row left.
+pub const NO_ENTITY_ROW: u32 = 10;
+/// No version row left where one is to be made.
+pub const NO_VERSION_ROW: u32 = 11;
+/// No edge row left where one is to be kept.
+pub const NO_EDGE_ROW: u32 = 12;
+/// Accepted is 1,000,000.
+pub const ACCEPTED_FULL: u32 = 13;
+/// Mark or work buffer shorter than its count.
+pub const BUFFER: u32 = 14;
+/// Output shorter than the kept log.
+pub const OUTPUT: u32 = 15;
+/// Tables not sound.
+pub const UNSOUND: u32 = 16;

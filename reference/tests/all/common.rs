@@ -1,0 +1,85 @@
+//! What several tests use.
+
+use reference::{BackwardAnswer, Event, FileBuilder, ForwardAnswer, TableLengths, Tables};
+use std::collections::BTreeSet;
+
+/// The declarations of the worked trail.
+pub fn worked_declarations() -> FileBuilder {
+    FileBuilder::new().object(0).subject(1).object(2).object(3)
+}
+
+/// The event file of the worked trail.
+pub fn worked_file() -> Vec<u8> {
+    worked_declarations()
+        .read(0, 1, 1)
+        .write(1, 2, 2)
+        .read(0, 1, 3)
+        .write(1, 2, 4)
+        .read(3, 1, 5)
+        .write(1, 2, 6)
+        .read(3, 1, 7)
+        .bytes()
+}
+
+/// A fresh trail with this many rows in each table.
+pub fn fresh(rows: usize) -> Tables {
+    Tables::fresh(TableLengths::of_rows(rows, rows, rows))
+}
+
+/// The tables of the worked trail.
+pub fn worked_tables() -> Tables {
+    grown(&worked_file())
+}
+
+/// The tables after a file taken in whole.
+pub fn grown(file: &[u8]) -> Tables {
+    let mut tables = fresh(100);
+    assert_eq!(tables.batch(file).refusal, 0);
+    tables
+}
+
+/// A backward trace with buffers of the right lengths: the answer, the work
+/// buffer and the mark buffer.
+pub fn backward(tables: &Tables, entity: u32, time: u32) -> (BackwardAnswer, Vec<u8>, Vec<u8>) {
+    let (mut work, mut marks) = buffers(tables);
+    let answer = tables.backward(entity, time, &mut work, &mut marks);
+    (answer, work, marks)
+}
+
+/// A forward trace with buffers of the right lengths: the answer, the work
+/// buffer and the mark buffer.
+pub fn forward(tables: &Tables, entity: u32, time: u32) -> (ForwardAnswer, Vec<u8>, Vec<u8>) {
+    let (mut work, mut marks) = buffers(tables);
+    let answer = tables.forward(entity, time, &mut work, &mut marks);
+    (answer, work, marks)
+}
+
+fn buffers(tables: &Tables) -> (Vec<u8>, Vec<u8>) {
+    let work = vec![7; tables.counts.versions as usize];
+    let marks = vec![7; tables.counts.entities as usize];
+    (work, marks)
+}
+
+/// The kept log of the tables.
+pub fn log_of(tables: &Tables) -> Vec<u8> {
+    let mut out = vec![0; 8 + 12 * (tables.counts.entities + tables.counts.edges) as usize];
+    let answer = tables.kept_log(&mut out);
+    assert_eq!((answer.refusal, answer.length as usize), (0, out.len()));
+    out
+}
+
+/// Every time up to the last and some after it.
+pub fn times(last: u32) -> impl Iterator<Item = u32> {
+    (0..=last + 1).chain([u32::MAX])
+}
+
+/// The times of the events, those just before and after, the first and the
+/// last time of all.
+pub fn times_around(events: &[Event]) -> BTreeSet<u32> {
+    let around = |event: &Event| {
+        let time = event.time;
+        [time - 1, time, time.saturating_add(1)]
+    };
+    let times = events.iter().flat_map(around);
+    times.chain([0, u32::MAX]).collect()
+}

@@ -1,0 +1,148 @@
+//! The generators give what their names say.
+
+use crate::common::fresh;
+use reference::generate::{
+    any_lengths, call_list, cut_file, damaged_file, event_file, grown_tables, lend_anew,
+    odd_lengths, refused_batch, sound_tables, sound_tables_of_shape, tiny_lengths, unsound_tables,
+    BatchFault, RecordSource, Shape,
+};
+use reference::sound::{is_sound, Clause};
+use reference::{Capacity, Counts, Random, Tables};
+
+#[test]
+fn the_same_seed_gives_the_same() {
+    let make = || {
+        let mut random = Random::new(50);
+        let calls = call_list(&mut random, 10);
+        let sound = sound_tables(&mut random);
+        let unsound = unsound_tables(&mut random, Clause::LatestExists);
+        let file = refused_batch(&mut random, BatchFault::TimeSame).file;
+        (calls, sound, unsound, file)
+    };
+    assert_eq!(make(), make());
+}
+
+#[test]
+fn first_numbers_of_the_generator() {
+    let mut random = Random::new(0);
+    let numbers = [random.bits(), random.bits(), random.bits()];
+    let expected = [
+        0xE220_A839_7B1D_CDAF,
+        0x6E78_9E6A_A1B9_65F4,
+        0x06C4_5D18_8009_454F,
+    ];
+    assert_eq!(numbers, expected);
+}
+
+#[test]
+fn event_files_are_taken_in_whole_with_repeats_and_all_kinds() {
+    let mut random = Random::new(51);
+    let (mut accepted, mut kinds) = (0, [0; 6]);
+    let mut edges = 0;
+    for _ in 0..50 {
+        let mut tables = fresh(100);
+        let file = event_file(&mut random, &mut RecordSource::fresh(), 80);
+        let answer = tables.batch(&file);
+        assert_eq!((answer.refusal, answer.taken), (0, 80));
+        accepted += tables.counts.accepted;
+        edges += tables.counts.edges;
+        for edge in tables.view().edge_rows() {
+            kinds[edge.kind as usize] += 1;
+        }
+    }
+    assert!(accepted > 3_000 && edges < accepted * 3 / 4);
+    assert!(kinds[1..].iter().all(|count| *count > 100), "{kinds:?}");
+}
+
+#[test]
+fn damaged_files_differ_in_one_byte_and_cut_files_are_shorter() {
+    let mut random = Random::new(52);
+    let file = event_file(&mut random, &mut RecordSource::fresh(), 20);
+    for _ in 0..200 {
+        let damaged = damaged_file(&mut random, &file);
+        let differing = file.iter().zip(&damaged).filter(|(old, new)| old != new);
+        assert_eq!((damaged.len(), differing.count()), (file.len(), 1));
+        let cut = cut_file(&mut random, &file);
+        assert!(cut.len() < file.len() && file.starts_with(&cut));
+    }
+}
+
+#[test]
+fn sound_tables_are_sound() {
+    let mut random = Random::new(53);
+    for _ in 0..2_000 {
+        assert!(is_sound(sound_tables(&mut random).view()));
+    }
+}
+
+#[test]
+fn grown_tables_have_none_of_the_shapes() {
+    let mut random = Random::new(54);
+    for _ in 0..100 {
+        let tables = grown_tables(&mut random, 60);
+        assert!(is_sound(tables.view()));
+        for shape in Shape::ALL {
+            assert!(!shape.is_in(tables.view()), "{shape:?}");
+        }
+    }
+}
+
+#[test]
+fn each_shape_is_found() {
+    let mut random = Random::new(55);
+    for shape in Shape::ALL {
+        for _ in 0..20 {
+            let tables = sound_tables_of_shape(&mut random, shape);
+            assert!(is_sound(tables.view()) && shape.is_in(tables.view()));
+        }
+    }
+}
+
+#[test]
+fn lengths_hold_the_rows_in_use_unless_any() {
+    let mut random = Random::new(56);
+    let (mut part_rows, mut too_short) = (0, 0);
+    for _ in 0..200 {
+        let tables = grown_tables(&mut random, 40);
+        let counts = tables.counts;
+        for lengths in [
+            tiny_lengths(&mut random, counts),
+            odd_lengths(&mut random, counts),
+        ] {
+            assert!(rows_fit(Capacity::of(lengths), counts));
+            part_rows += usize::from(lengths.versions % 4 != 0);
+        }
+        let lengths = any_lengths(&mut random, counts);
+        too_short += usize::from(!rows_fit(Capacity::of(lengths), counts));
+    }
+    assert!(part_rows > 0 && too_short > 0);
+}
+
+fn rows_fit(capacity: Capacity, counts: Counts) -> bool {
+    counts.entities as usize <= capacity.entities
+        && counts.versions as usize <= capacity.versions
+        && counts.edges as usize <= capacity.edges
+}
+
+#[test]
+fn tables_lent_anew_have_the_same_rows_in_use() {
+    let mut random = Random::new(57);
+    for _ in 0..100 {
+        let tables = grown_tables(&mut random, 40);
+        let lengths = odd_lengths(&mut random, tables.counts);
+        let lent = lend_anew(&mut random, &tables, lengths);
+        assert_eq!(lent.view().lengths(), lengths);
+        assert_eq!(rows_in_use(&lent), rows_in_use(&tables));
+    }
+}
+
+fn rows_in_use(tables: &Tables) -> (Counts, Vec<u32>) {
+    let view = tables.view();
+    let entities = view.entity_rows().flat_map(|row| row.numbers());
+    let versions = view.version_rows().flat_map(|row| row.numbers());
+    let edges = view.edge_rows().flat_map(|row| row.numbers());
+    (
+        tables.counts,
+        entities.chain(versions).chain(edges).collect(),
+    )
+}

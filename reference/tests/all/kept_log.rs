@@ -1,0 +1,60 @@
+//! The kept log taken in again.
+
+use crate::common::{backward, forward, fresh, log_of, times};
+use reference::generate::{grown_tables, sound_tables};
+use reference::{Random, Tables};
+
+fn taken_in_again(tables: &Tables) -> Tables {
+    let mut again = fresh(200);
+    let answer = again.batch(&log_of(tables));
+    let records = tables.counts.entities + tables.counts.edges;
+    assert_eq!((answer.refusal, answer.taken), (0, records));
+    again
+}
+
+#[test]
+fn same_entities_and_kept_events() {
+    let mut random = Random::new(10);
+    for _ in 0..200 {
+        let tables = grown_tables(&mut random, 60);
+        let again = taken_in_again(&tables);
+        assert_eq!(again.counts.entities, tables.counts.entities);
+        assert_eq!(again.counts.versions, tables.counts.versions);
+        assert_eq!(again.counts.edges, tables.counts.edges);
+        assert_eq!(again.counts.accepted, tables.counts.edges);
+        assert_eq!(log_of(&again), log_of(&tables));
+    }
+}
+
+#[test]
+fn same_traces() {
+    let mut random = Random::new(11);
+    for _ in 0..10 {
+        let tables = grown_tables(&mut random, 40);
+        let again = taken_in_again(&tables);
+        for entity in 0..tables.counts.entities {
+            for time in times(tables.counts.last) {
+                let (answer, _, marks) = backward(&tables, entity, time);
+                let (answer_again, _, marks_again) = backward(&again, entity, time);
+                assert_eq!((answer_again, marks_again), (answer, marks));
+                let (answer, _, marks) = forward(&tables, entity, time);
+                let (answer_again, _, marks_again) = forward(&again, entity, time);
+                assert_eq!((answer_again, marks_again), (answer, marks));
+            }
+        }
+    }
+}
+
+#[test]
+fn log_of_tables_nobody_grew_is_taken_in_whole() {
+    let mut random = Random::new(12);
+    for _ in 0..300 {
+        taken_in_again(&sound_tables(&mut random));
+    }
+}
+
+#[test]
+fn log_of_a_fresh_trail_is_the_header() {
+    assert_eq!(log_of(&fresh(0)), [0x53, 0x4C, 0x54, 1, 0, 0, 0, 0]);
+    assert_eq!(fresh(0).kept_log(&mut [0; 7]).refusal, 15);
+}

@@ -1,0 +1,192 @@
+//! Lists of calls: the calls over tables and the full list must agree.
+
+use crate::common::{backward, forward, times_around};
+use reference::causal::reached_from;
+use reference::generate::{call_list, lend_anew, LentCall};
+use reference::sound::is_sound;
+use reference::{Answer, Call, Capacity, Counts, FullList, Random, TableLengths, Tables};
+
+const LISTS: u64 = 30;
+
+/// The tables and the full list after the same calls.
+struct Both {
+    tables: Tables,
+    list: FullList,
+}
+
+impl Both {
+    fn fresh() -> Both {
+        Both {
+            tables: Tables::fresh(TableLengths::of_rows(0, 0, 0)),
+            list: FullList::new(),
+        }
+    }
+
+    /// Makes the call on both and compares all that both give.
+    fn run(&mut self, random: &mut Random, lent: &LentCall) -> Answer {
+        self.tables = lend_anew(random, &self.tables, lent.lengths);
+        let mut call = lent.call.clone();
+        let answer = call.run(&mut self.tables);
+        let (of_list, marks) = run_on_list(&mut self.list, lent);
+        assert_eq!(answer, of_list);
+        if let Call::Backward { marks: written, .. } | Call::Forward { marks: written, .. } = call {
+            assert_eq!(written, marks);
+        }
+        assert_eq!(self.tables.counts, self.list.counts());
+        answer
+    }
+}
+
+/// The answer of the full list and the mark buffer of a trace.
+fn run_on_list(list: &mut FullList, lent: &LentCall) -> (Answer, Vec<u8>) {
+    match lent.call.clone() {
+        Call::Batch { file } => {
+            let answer = list.batch(Capacity::of(lent.lengths), &file);
+            (Answer::Batch(answer), Vec::new())
+        }
+        Call::Backward {
+            entity,
+            time,
+            work,
+            mut marks,
+        } => {
+            let answer = list.backward(entity, time, work.len(), &mut marks);
+            (Answer::Backward(answer), marks)
+        }
+        Call::Forward {
+            entity,
+            time,
+            work,
+            mut marks,
+        } => {
+            let answer = list.forward(entity, time, work.len(), &mut marks);
+            (Answer::Forward(answer), marks)
+        }
+        Call::KeptLog { .. } => panic!("a list of calls has batches and traces"),
+    }
+}
+
+/// Both after a list of calls from this seed.
+fn after_list(seed: u64) -> Both {
+    let mut random = Random::new(seed);
+    let calls = call_list(&mut random, 12);
+    let mut both = Both::fresh();
+    for call in &calls {
+        both.run(&mut random, call);
+    }
+    both
+}
+
+/// Compares the traces of all entities at all times.
+fn assert_all_traces_agree(both: &Both) {
+    let Counts {
+        entities, versions, ..
+    } = both.tables.counts;
+    for entity in 0..entities {
+        for time in times_around(&both.list.events()) {
+            let mut marks = vec![7; entities as usize];
+            let answer = both
+                .list
+                .backward(entity, time, versions as usize, &mut marks);
+            let (of_tables, _, of_tables_marks) = backward(&both.tables, entity, time);
+            assert_eq!((of_tables, of_tables_marks), (answer, marks));
+            let mut marks = vec![7; entities as usize];
+            let answer = both
+                .list
+                .forward(entity, time, versions as usize, &mut marks);
+            let (of_tables, _, of_tables_marks) = forward(&both.tables, entity, time);
+            assert_eq!((of_tables, of_tables_marks), (answer, marks));
+        }
+    }
+}
+
+#[test]
+fn answers_and_counts_agree_after_every_call() {
+    let mut accepted = 0;
+    for seed in 0..400 {
+        accepted += after_list(seed).tables.counts.accepted;
+    }
+    assert!(accepted > 4_000, "{accepted}");
+}
+
+#[test]
+fn all_traces_agree() {
+    for seed in 0..LISTS {
+        assert_all_traces_agree(&after_list(seed));
+    }
+}
+
+#[test]
+fn traces_in_a_list_are_refused_only_with_5_or_14() {
+    let mut seen = [0; 17];
+    for seed in 1_000..1_200 {
+        let mut random = Random::new(seed);
+        let calls = call_list(&mut random, 12);
+        let mut both = Both::fresh();
+        for call in &calls {
+            let answer = both.run(&mut random, call);
+            if !matches!(answer, Answer::Batch(_)) {
+                seen[answer.refusal() as usize] += 1;
+            }
+        }
+    }
+    assert!(seen[0] > 0 && seen[5] > 0 && seen[14] > 0);
+    assert_eq!(seen.iter().sum::<u32>(), seen[0] + seen[5] + seen[14]);
+}
+
+#[test]
+fn edges_are_the_kept_events() {
+    for seed in 0..LISTS {
+        let both = after_list(seed);
+        let view = both.tables.view();
+        let edges = view.edge_rows().map(|edge| {
+            let source = view.version(edge.from).entity as u16;
+            let target = view.version(edge.to).entity as u16;
+            (edge.kind, source, target, edge.time)
+        });
+        let kept = both.list.kept_events().into_iter();
+        let kept = kept.map(|event| (event.kind.number(), event.source, event.target, event.time));
+        assert!(edges.eq(kept));
+    }
+}
+
+#[test]
+fn grown_tables_are_sound_with_few_versions() {
+    for seed in 0..400 {
+        let both = after_list(seed);
+        let counts = both.tables.counts;
+        assert!(is_sound(both.tables.view()));
+        assert!(counts.versions <= counts.entities + counts.edges);
+    }
+}
+
+#[test]
+fn an_event_that_gives_an_ancestor_is_kept() {
+    let mut gains = 0;
+    for seed in 0..LISTS {
+        let list = after_list(seed).list;
+        for (index, accepted) in list.accepted.iter().enumerate() {
+            if list.gains_ancestor(index) {
+                gains += 1;
+                let (entity, time) = (accepted.event.target, accepted.event.time);
+                assert_eq!(list.latest_intake(entity, time), Some(accepted.event));
+            }
+        }
+    }
+    assert!(gains > 100, "{gains}");
+}
+
+#[test]
+fn forward_never_holds_less_than_the_full_log_at_that_time() {
+    for seed in 0..LISTS {
+        let list = after_list(seed).list;
+        for entity in 0..list.sorts.len() as u16 {
+            for time in times_around(&list.events()) {
+                let mut later = list.events();
+                later.retain(|event| event.time >= time);
+                let full = reached_from(entity, &later);
+                assert!(full.is_subset(&list.forward_entities(entity, time)));
+            }
+        }
+    }
+}

@@ -1,0 +1,16 @@
+//! The tests, one module for each idea.
+
+mod common;
+
+mod buffers;
+mod caps;
+mod causal_paths;
+mod generators;
+mod kept_log;
+mod listing;
+mod lists_of_calls;
+mod records;
+mod refusals;
+mod soundness;
+mod tables_nobody_grew;
+mod worked_trail;

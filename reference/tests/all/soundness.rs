@@ -1,0 +1,189 @@
+//! Sound tables, clause by clause.
+
+use crate::common::{fresh, worked_tables};
+use reference::generate::{
+    every_length, lend_anew, sound_tables, unsound_tables, unsound_tables_by_one_number,
+};
+use reference::rows::{EntityRow, VersionRow, NO_VERSION};
+use reference::sound::{broken_clauses, is_sound, Clause};
+use reference::{Counts, Random, TableLengths, Tables};
+
+type Change = fn(&mut Tables);
+
+/// The worked tables with one number changed.
+fn changed(change: impl Fn(&mut Tables)) -> Vec<Clause> {
+    let mut tables = worked_tables();
+    change(&mut tables);
+    broken_clauses(tables.view())
+}
+
+#[test]
+fn fresh_whatever_the_tables_hold() {
+    let mut tables = worked_tables();
+    tables.counts = Counts::FRESH;
+    tables.entities.fill(9);
+    tables.versions.fill(9);
+    tables.edges.fill(9);
+    assert!(is_sound(tables.view()));
+    assert!(is_sound(fresh(0).view()));
+}
+
+#[test]
+fn counts_without_rows() {
+    let mut tables = fresh(0);
+    tables.counts.accepted = 5;
+    tables.counts.last = u32::MAX;
+    assert!(is_sound(tables.view()));
+    tables.counts.accepted = 1_000_000;
+    assert!(is_sound(tables.view()));
+    tables.counts.accepted = 1_000_001;
+    assert!(!is_sound(tables.view()));
+}
+
+#[test]
+fn numbers_that_may_change() {
+    assert_eq!(changed(|_| {}), []);
+    assert_eq!(changed(|tables| tables.counts.accepted = 4), []);
+    assert_eq!(changed(|tables| tables.counts.last = 6), []);
+    assert_eq!(changed(|tables| tables.entities[3] = 1), []);
+    assert_eq!(changed(|tables| tables.versions[2] = 7), []);
+    assert_eq!(changed(|tables| tables.versions[17] = 1), []);
+    assert_eq!(changed(|tables| tables.edges[15] = 7), []);
+    assert_eq!(changed(|tables| tables.edges[0] = 3), []);
+}
+
+#[test]
+fn numbers_that_may_not_change() {
+    let changes: [(Change, Clause); 18] = [
+        (
+            |tables| tables.counts.accepted = 3,
+            Clause::EdgesAtMostAccepted,
+        ),
+        (|tables| tables.entities[3] = 5, Clause::LatestExists),
+        (
+            |tables| tables.entities[3] = 2,
+            Clause::LatestIsOfThatEntity,
+        ),
+        (|tables| tables.versions[18] = 4, Clause::StartAtMostEnd),
+        (|tables| tables.versions[18] = 8, Clause::EndAtMostLast),
+        (
+            |tables| tables.versions[7] = 0,
+            Clause::NoPreviousWhereStartIsZero,
+        ),
+        (
+            |tables| tables.versions[19] = u32::MAX,
+            Clause::PreviousWhereStartIsNotZero,
+        ),
+        (
+            |tables| tables.versions[17] = 0,
+            Clause::NoPreviousWhereStartIsZero,
+        ),
+        (
+            |tables| tables.versions[19] = 5,
+            Clause::PreviousHasLowerNumber,
+        ),
+        (
+            |tables| tables.versions[19] = 0,
+            Clause::PreviousIsOfSameEntity,
+        ),
+        (|tables| tables.edges[0] = 5, Clause::FromExists),
+        (|tables| tables.edges[1] = 5, Clause::ToExists),
+        (|tables| tables.edges[2] = 0, Clause::KindIsOneToFive),
+        (|tables| tables.edges[2] = 6, Clause::KindIsOneToFive),
+        (|tables| tables.edges[4] = 0, Clause::SourceHasSortOfKind),
+        (|tables| tables.edges[3] = 0, Clause::EdgeTimeAtLeastOne),
+        (|tables| tables.edges[15] = 8, Clause::EdgeTimeAtMostLast),
+        (|tables| tables.edges[7] = 1, Clause::EdgeTimesRise),
+    ];
+    for (change, clause) in changes {
+        assert_eq!(changed(change), [clause]);
+    }
+}
+
+#[test]
+fn previous_version_starts_earlier() {
+    let entity = EntityRow { sort: 0, latest: 2 };
+    let version = |start, previous| VersionRow {
+        entity: 0,
+        start,
+        end: 5,
+        previous,
+    };
+    let broken = |start, previous| {
+        let versions = [
+            version(0, NO_VERSION),
+            version(3, 0),
+            version(start, previous),
+        ];
+        broken_clauses(Tables::of_rows(&[entity], &versions, &[], 0, 5).view())
+    };
+    assert_eq!(broken(4, 1), []);
+    assert_eq!(broken(3, 1), [Clause::PreviousHasLowerStart]);
+    assert_eq!(broken(2, 1), [Clause::PreviousHasLowerStart]);
+    assert_eq!(broken(2, 0), []);
+    let itself = [
+        Clause::PreviousHasLowerNumber,
+        Clause::PreviousHasLowerStart,
+    ];
+    assert_eq!(broken(4, 2), itself);
+}
+
+#[test]
+fn one_number_makes_tables_unsound() {
+    let mut random = Random::new(43);
+    let mut broken_alone_or_not = [0; 2];
+    for _ in 0..500 {
+        let tables = unsound_tables_by_one_number(&mut random);
+        let broken = broken_clauses(tables.view()).len();
+        assert!(broken > 0);
+        broken_alone_or_not[usize::from(broken > 1)] += 1;
+    }
+    assert!(broken_alone_or_not[0] > 0 && broken_alone_or_not[1] > 0);
+}
+
+#[test]
+fn every_table_length() {
+    let mut random = Random::new(40);
+    let tables = worked_tables();
+    let counts = tables.counts;
+    for entities in every_length(counts.entities, 2) {
+        for versions in every_length(counts.versions, 4) {
+            for edges in every_length(counts.edges, 4) {
+                let lengths = TableLengths {
+                    entities,
+                    versions,
+                    edges,
+                };
+                let lent = lend_anew(&mut random, &tables, lengths);
+                let rows_fit = entities >= 8 && versions >= 20 && edges >= 16;
+                assert_eq!(is_sound(lent.view()), rows_fit);
+            }
+        }
+    }
+}
+
+#[test]
+fn each_clause_alone_makes_tables_unsound() {
+    let mut random = Random::new(41);
+    for clause in Clause::ALL {
+        for _ in 0..20 {
+            let tables = unsound_tables(&mut random, clause);
+            assert_eq!(broken_clauses(tables.view()), [clause]);
+            assert!(!is_sound(tables.view()));
+        }
+    }
+}
+
+#[test]
+fn a_batch_leaves_sound_tables_sound() {
+    let mut random = Random::new(42);
+    let mut taken = 0;
+    for _ in 0..600 {
+        let mut tables = sound_tables(&mut random);
+        let mut call = reference::generate::calls::batch_on(&mut random, &tables);
+        call.run(&mut tables);
+        taken += tables.counts.edges;
+        assert!(is_sound(tables.view()));
+    }
+    assert!(taken > 600);
+}

@@ -1,0 +1,195 @@
+//! Sound tables that no file gave, worked by hand.
+
+use crate::common::{backward, forward};
+use reference::rows::{EdgeRow, EntityRow, VersionRow, NO_VERSION};
+use reference::sound::is_sound;
+use reference::trace::{chain, start_version};
+use reference::{FileBuilder, Tables};
+
+const OBJECT: u32 = 0;
+const SUBJECT: u32 = 1;
+const READ: u32 = 1;
+const WRITE: u32 = 2;
+const FORK: u32 = 4;
+
+fn entity(sort: u32, latest: u32) -> EntityRow {
+    EntityRow { sort, latest }
+}
+
+fn version(entity: u32, start: u32, end: u32, previous: u32) -> VersionRow {
+    VersionRow {
+        entity,
+        start,
+        end,
+        previous,
+    }
+}
+
+fn first(entity: u32) -> VersionRow {
+    version(entity, 0, 0, NO_VERSION)
+}
+
+fn edge(from: u32, to: u32, kind: u32, time: u32) -> EdgeRow {
+    EdgeRow {
+        from,
+        to,
+        kind,
+        time,
+    }
+}
+
+/// Sound tables with 9 as the last time and three rows left in each table.
+fn tables(entities: &[EntityRow], versions: &[VersionRow], edges: &[EdgeRow]) -> Tables {
+    let accepted = edges.len() as u32;
+    let mut tables = Tables::of_rows(entities, versions, edges, accepted, 9);
+    tables.entities.extend([8; 6]);
+    tables.versions.extend([8; 12]);
+    tables.edges.extend([8; 12]);
+    assert!(is_sound(tables.view()));
+    tables
+}
+
+/// Subjects that fork each other, with a single version each.
+fn two_subjects() -> Tables {
+    tables(
+        &[entity(SUBJECT, 0), entity(SUBJECT, 1)],
+        &[first(0), first(1)],
+        &[edge(0, 1, FORK, 3), edge(1, 0, FORK, 6)],
+    )
+}
+
+#[test]
+fn edge_leaves_before_one_enters() {
+    let tables = tables(
+        &[entity(OBJECT, 0), entity(SUBJECT, 1), entity(OBJECT, 2)],
+        &[first(0), first(1), first(2)],
+        &[edge(1, 2, WRITE, 1), edge(0, 1, READ, 2)],
+    );
+    let (answer, work, marks) = backward(&tables, 2, 1);
+    assert_eq!((answer.count, work, marks), (3, vec![1; 3], vec![1; 3]));
+    let (answer, _, marks) = backward(&tables, 1, 1);
+    assert_eq!((answer.count, marks), (1, vec![0, 1, 0]));
+    let (answer, _, marks) = forward(&tables, 0, 0);
+    assert_eq!((answer.count, marks), (3, vec![1; 3]));
+}
+
+#[test]
+fn start_version_met_again_keeps_its_time_limit() {
+    let tables = two_subjects();
+    let counts = |entity| [0, 2, 3, 5, 6, 9].map(|time| backward(&tables, entity, time).0.count);
+    assert_eq!(counts(0), [1, 1, 1, 1, 2, 2]);
+    assert_eq!(counts(1), [1, 1, 2, 2, 2, 2]);
+}
+
+#[test]
+fn intake_is_the_greatest_time_of_an_entering_edge() {
+    let tables = two_subjects();
+    let intakes = |entity| [0, 2, 3, 5, 6, 9].map(|time| forward(&tables, entity, time).0.intake);
+    assert_eq!(intakes(0), [0, 0, 0, 0, 6, 6]);
+    assert_eq!(intakes(1), [0, 0, 3, 3, 3, 3]);
+}
+
+/// Object 0 has five versions; 4 -> 1 -> 0 is its chain. Versions 2 and 3 are
+/// off every chain. Object 0 was read from version 3 and written into 2.
+fn versions_off_the_chain() -> Tables {
+    tables(
+        &[entity(OBJECT, 4), entity(SUBJECT, 5)],
+        &[
+            first(0),
+            version(0, 2, 3, 0),
+            version(0, 1, 4, 0),
+            version(0, 4, 4, 2),
+            version(0, 6, 7, 1),
+            first(1),
+        ],
+        &[edge(3, 5, READ, 5), edge(5, 2, WRITE, 7)],
+    )
+}
+
+#[test]
+fn start_version_is_on_the_chain_from_the_latest() {
+    let tables = versions_off_the_chain();
+    assert_eq!(chain(tables.view(), 0), [4, 1, 0]);
+    let starts = [0, 1, 2, 5, 6, 9].map(|time| start_version(tables.view(), 0, time));
+    assert_eq!(starts, [0, 0, 1, 1, 4, 4]);
+}
+
+#[test]
+fn forward_goes_to_every_version_after_one() {
+    let tables = versions_off_the_chain();
+    let (answer, work, marks) = forward(&tables, 0, 0);
+    assert_eq!((answer.count, answer.intake), (2, 0));
+    assert_eq!((work, marks), (vec![1; 6], vec![1, 1]));
+    let (answer, work, marks) = forward(&tables, 0, 2);
+    assert_eq!((answer.count, answer.intake), (1, 2));
+    assert_eq!((work, marks), (vec![0, 1, 0, 0, 1, 0], vec![1, 0]));
+}
+
+#[test]
+fn intake_without_an_entering_edge_is_the_start() {
+    let tables = versions_off_the_chain();
+    let intakes = [0, 1, 2, 5, 6, 9].map(|time| forward(&tables, 0, time).0.intake);
+    assert_eq!(intakes, [0, 0, 2, 2, 6, 6]);
+}
+
+#[test]
+fn backward_through_versions_off_the_chain() {
+    let tables = versions_off_the_chain();
+    let (answer, work, marks) = backward(&tables, 1, 5);
+    assert_eq!((answer.count, marks), (2, vec![1, 1]));
+    assert_eq!(work, [1, 0, 1, 1, 0, 1]);
+    let (answer, work, _) = backward(&tables, 1, 4);
+    assert_eq!((answer.count, work), (1, vec![0, 0, 0, 0, 0, 1]));
+}
+
+#[test]
+fn repeat_by_an_edge_to_a_version_off_the_chain() {
+    let mut tables = versions_off_the_chain();
+    let before = tables.clone();
+    let answer = tables.batch(&FileBuilder::new().write(1, 0, 10).bytes());
+    assert_eq!((answer.refusal, answer.taken), (0, 1));
+    assert_eq!((tables.counts.accepted, tables.counts.last), (3, 10));
+    tables.counts = before.counts;
+    assert_eq!(tables, before);
+}
+
+#[test]
+fn no_repeat_by_an_edge_from_a_version_off_the_chain() {
+    let mut tables = versions_off_the_chain();
+    let answer = tables.batch(&FileBuilder::new().read(0, 1, 10).bytes());
+    assert_eq!((answer.refusal, answer.taken), (0, 1));
+    assert_eq!(tables.view().edge(2), edge(4, 6, READ, 10));
+    assert_eq!(tables.view().version(6), version(1, 10, 10, 5));
+    assert_eq!(tables.view().entity(1).latest, 6);
+}
+
+#[test]
+fn an_older_version_with_edges_does_not_keep_the_latest_from_widening() {
+    let mut tables = tables(
+        &[entity(SUBJECT, 2), entity(OBJECT, 1)],
+        &[first(0), first(1), version(0, 3, 8, 0)],
+        &[edge(0, 1, WRITE, 1)],
+    );
+    let file = FileBuilder::new().read(1, 0, 10).write(0, 1, 11).bytes();
+    assert_eq!(tables.batch(&file).refusal, 0);
+    assert_eq!(tables.view().version(2), version(0, 3, 10, 0));
+    assert_eq!(tables.view().edge(1), edge(1, 2, READ, 10));
+    assert_eq!(tables.view().version(3), version(1, 11, 11, 1));
+    assert_eq!(tables.view().edge(2), edge(2, 3, WRITE, 11));
+}
+
+#[test]
+fn a_repeat_by_an_edge_of_another_kind() {
+    let mut tables = tables(
+        &[entity(OBJECT, 0), entity(SUBJECT, 1)],
+        &[first(0), first(1)],
+        &[edge(0, 1, 5, 2)],
+    );
+    let file = FileBuilder::new().load(0, 1, 10).read(0, 1, 11).bytes();
+    assert_eq!(tables.batch(&file).refusal, 0);
+    assert_eq!((tables.counts.edges, tables.counts.accepted), (1, 3));
+    let file = FileBuilder::new().execve(0, 1, 12).execve(0, 1, 13).bytes();
+    assert_eq!(tables.batch(&file).refusal, 0);
+    assert_eq!((tables.counts.edges, tables.counts.accepted), (3, 5));
+    assert_eq!(tables.view().version(1), version(1, 0, 13, NO_VERSION));
+}
