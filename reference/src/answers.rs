@@ -1,6 +1,7 @@
-//! The counts record and the answers of the calls.
+//! The counts record and the answers of the calls, laid out as in C.
 
 #[derive(Clone, Copy, Debug, Default, PartialEq, Eq)]
+#[repr(C)]
 pub struct Counts {
     pub entities: u32,
     pub versions: u32,
@@ -21,18 +22,21 @@ impl Counts {
 }
 
 #[derive(Clone, Copy, Debug, PartialEq, Eq)]
+#[repr(C)]
 pub struct BatchAnswer {
     pub refusal: u32,
     pub taken: u32,
 }
 
 #[derive(Clone, Copy, Debug, PartialEq, Eq)]
+#[repr(C)]
 pub struct BackwardAnswer {
     pub refusal: u32,
     pub count: u32,
 }
 
 #[derive(Clone, Copy, Debug, PartialEq, Eq)]
+#[repr(C)]
 pub struct ForwardAnswer {
     pub refusal: u32,
     pub count: u32,
@@ -40,6 +44,7 @@ pub struct ForwardAnswer {
 }
 
 #[derive(Clone, Copy, Debug, PartialEq, Eq)]
+#[repr(C)]
 pub struct LogAnswer {
     pub refusal: u32,
     pub length: u32,

@@ -5,12 +5,14 @@
 //! carried out literally, with no thought for speed.
 //!
 //! - The calls over lent tables: [`batch()`], [`backward()`], [`forward()`],
-//!   [`kept_log()`].
+//!   [`kept_log()`]. For files of many records: [`long_batch()`].
 //! - The trail over the full list of accepted events: [`FullList`].
 //! - The text of the listing program: [`listing()`].
 //! - Files and tables to try them on: [`FileBuilder`] and [`generate`].
 
 pub mod answers;
+#[cfg(feature = "archive")]
+pub mod archive;
 pub mod batch;
 pub mod call;
 pub mod capacity;
@@ -21,6 +23,7 @@ pub mod full_list;
 pub mod generate;
 pub mod kept_log;
 pub mod listing;
+pub mod long_batch;
 pub mod random;
 pub mod record;
 pub mod refusal;
@@ -37,6 +40,7 @@ pub use file_builder::FileBuilder;
 pub use full_list::FullList;
 pub use kept_log::kept_log;
 pub use listing::listing;
+pub use long_batch::long_batch;
 pub use random::Random;
 pub use record::{Declaration, Event, Kind, Record, Sort};
 pub use tables::{TableView, Tables};

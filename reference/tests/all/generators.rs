@@ -1,13 +1,13 @@
 //! The generators give what their names say.
 
-use crate::common::fresh;
+use crate::common::{backward, forward, fresh};
 use reference::generate::{
-    any_lengths, call_list, cut_file, damaged_file, event_file, grown_tables, lend_anew,
-    odd_lengths, refused_batch, sound_tables, sound_tables_of_shape, tiny_lengths, unsound_tables,
-    BatchFault, RecordSource, Shape,
+    any_lengths, call_list, cut_file, damaged_file, event_file, grown_tables, large_tables,
+    lend_anew, long_file, odd_lengths, refused_batch, sound_tables, sound_tables_of_shape,
+    tables_of_late_first_forks, tiny_lengths, unsound_tables, BatchFault, RecordSource, Shape,
 };
 use reference::sound::{is_sound, Clause};
-use reference::{Capacity, Counts, Random, Tables};
+use reference::{Capacity, Counts, Kind, Random, Tables};
 
 #[test]
 fn the_same_seed_gives_the_same() {
@@ -96,6 +96,37 @@ fn each_shape_is_found() {
             assert!(is_sound(tables.view()) && shape.is_in(tables.view()));
         }
     }
+}
+
+#[test]
+fn large_tables_are_sound_and_have_all_their_rows() {
+    let mut random = Random::new(58);
+    for (entities, versions, edges) in [(2, 2, 0), (3, 9, 20), (40, 200, 900)] {
+        let tables = large_tables(&mut random, entities, versions, edges);
+        assert!(is_sound(tables.view()));
+        let counts = tables.counts;
+        let rows = (counts.entities, counts.versions, counts.edges);
+        assert_eq!(rows, (entities, versions, edges));
+    }
+}
+
+#[test]
+fn late_first_forks_join_all_subjects() {
+    for count in [1, 2, 9] {
+        let tables = tables_of_late_first_forks(count);
+        assert!(is_sound(tables.view()));
+        assert_eq!(forward(&tables, 0, 0).0.count, count);
+        assert_eq!(backward(&tables, count - 1, u32::MAX).0.count, count);
+    }
+}
+
+#[test]
+fn long_files_are_taken_in_whole() {
+    let mut random = Random::new(59);
+    let mut tables = fresh(500);
+    let answer = tables.batch(&long_file(&mut random, 20, &Kind::ALL, 400));
+    assert_eq!((answer.refusal, answer.taken), (0, 420));
+    assert_eq!((tables.counts.entities, tables.counts.accepted), (20, 400));
 }
 
 #[test]

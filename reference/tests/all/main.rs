@@ -9,6 +9,7 @@ mod generators;
 mod kept_log;
 mod listing;
 mod lists_of_calls;
+mod long_batch;
 mod records;
 mod refusals;
 mod soundness;

@@ -1,0 +1,21 @@
+-- the buffers
+pub mod Marked
+pub mod Cleared
+-- passes over arcs, as code makes them
+pub mod Followed
+pub mod Loops
+pub mod BackArcs
+pub mod OnArcs
+-- the same marks as in document 01
+pub mod Members
+pub mod Prefix
+pub mod BackMarks
+pub mod OnMarks
+pub mod EntityMarks
+pub mod Checked
+pub mod Buffers
+pub mod BackAnswer
+pub mod OnAnswer
+-- the start version and the intake
+pub mod StartLoop
+pub mod IntakeLoop

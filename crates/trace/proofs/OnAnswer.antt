@@ -1,0 +1,74 @@
+-- The answer and the buffers of a forward trace are those of document 01.
+use Prim.Native.Nat.{ℕ}
+use mathlib.Core.Path.{_≡_, sym, _∙_, ap}
+use mathlib.Core.List.{List, [], _++_}
+use lib.ListN.{set, take, drop, replicate}
+use Rattle.refusals.specs.declared.Refusal.{Refusal}
+use Rattle.refusals.specs.declared.Checked.{Checked}
+use Rattle.refusals.specs.declared.Checked.the-variants.{Passed, Refused}
+use Rattle.refusals.specs.Refusals.{firstOf, refusalNo}
+use Rattle.rows.specs.declared.Counts.{Counts}
+use Rattle.rows.specs.declared.VersionNo.{VersionNo}
+use Rattle.rows.specs.Rows.{versionAt, edgeAt}
+use Rattle.rules.specs.Trail.{Trail, tables, trailOf}
+use Rattle.rules.specs.Start.{startOf}
+use Rattle.rules.specs.Marks.{passes, ones, overlaid}
+use Rattle.rules.specs.Backward.{traceChecks}
+use Rattle.rules.specs.Forward.{forwardWork, forwardEntities, forwardIntake, forwardOf}
+use Rattle.closure.proofs.Forward.{length-forwardWork}
+use Rattle.trace.specs.TraceArcs.{arcsOn}
+use Rattle.trace.specs.Owners.{ownersMarked}
+use Rattle.trace.specs.Intake.{lastIntake}
+use Rattle.trace.specs.Answers.{forwardTrace}
+use Rattle.trace.proofs.StartLoop.{start-any}
+use Rattle.trace.proofs.IntakeLoop.{lastIntake-is}
+use Rattle.trace.proofs.Checked.{passed-rows, passed-entity}
+use Rattle.trace.proofs.OnMarks.{work-on}
+use Rattle.trace.proofs.Buffers.{left-work, left-marks, left-count}
+
+module _ (c : Counts) (es vs ds : List ℕ) (x t : ℕ) (work marks : List ℕ) where
+  abbrev checked : Checked
+  checked = firstOf (traceChecks c (tables es vs ds) x work marks)
+
+  abbrev T : Trail
+  T = trailOf c (tables es vs ds)
+
+  pub forward-refused : (k : Checked) (r : Refusal) (n : ℕ) → k ≡ checked → k ≡ Refused r → n ≡ refusalNo r
+      → forwardTrace (record { refusal = n; count = 0; intake = 0 }) work marks ≡ forwardOf c (tables es vs ds) x t work marks
+  unfolding forwardOf
+  forward-refused k r n p q e =
+      let z : checked ≡ Refused r = sym p ∙ q in
+      rw (z, e)
+
+  module _ (p : checked ≡ Passed) where
+    forward-taken : forwardOf c (tables es vs ds) x t work marks
+        ≡ forwardTrace (record { refusal = 0; count = ones (forwardEntities T x t); intake = forwardIntake T x t }) (overlaid (forwardWork T x t) work) (overlaid (forwardEntities T x t) marks)
+    unfolding forwardOf
+    forward-taken = rw p
+
+    module _
+        (s : VersionNo)
+        (work′ marks′ : List ℕ)
+        (n g : ℕ)
+        (qs : s .0 ≡ startOf (trailOf c (tables es vs [])) x t)
+        (qw : work′ ≡ passes (c .versions) (arcsOn (versionAt vs) (edgeAt ds) (c .versions) (c .edges)) (set (replicate (c .versions) 0 ++ drop (c .versions) work) (s .0) 1))
+        (qm : marks′ ≡ ownersMarked (versionAt vs) work′ (c .versions) (replicate (c .entities) 0 ++ drop (c .entities) marks))
+        (qn : n ≡ ones (take (c .entities) marks′))
+        (qg : g ≡ lastIntake (versionAt vs) (edgeAt ds) (s .0) t (c .edges))
+      where
+        marked : work′ ≡ forwardWork T x t ++ drop (c .versions) work
+        marked =
+            qw
+            ∙ ap (λ v. passes (c .versions) (arcsOn (versionAt vs) (edgeAt ds) (c .versions) (c .edges)) (set (replicate (c .versions) 0 ++ drop (c .versions) work) v 1)) (qs ∙ start-any c es vs ds x t)
+            ∙ work-on T (passed-rows c (tables es vs ds) x work marks p) x t (passed-entity c (tables es vs ds) x work marks p) _
+
+        pub forward-passed : forwardTrace (record { refusal = 0; count = n; intake = g }) work′ marks′ ≡ forwardOf c (tables es vs ds) x t work marks
+        unfolding forwardEntities forwardIntake
+        forward-passed =
+            let f = passed-rows c (tables es vs ds) x work marks p in
+            let l = length-forwardWork T x t in
+            let w : work′ ≡ overlaid (forwardWork T x t) work = left-work T f (forwardWork T x t) work marks l work′ marks′ marked qm in
+            let m : marks′ ≡ overlaid (forwardEntities T x t) marks = left-marks T f (forwardWork T x t) work marks l work′ marks′ marked qm in
+            let o : n ≡ ones (forwardEntities T x t) = left-count T f (forwardWork T x t) work marks l work′ marks′ marked qm n qn in
+            let z : g ≡ forwardIntake T x t = qg ∙ ap (λ v. lastIntake (versionAt vs) (edgeAt ds) v t (c .edges)) (qs ∙ start-any c es vs ds x t) ∙ lastIntake-is T f (startOf T x t) t in
+            (λ i. forwardTrace (record { refusal = 0; count = o i; intake = z i }) (w i) (m i)) ∙ sym forward-taken

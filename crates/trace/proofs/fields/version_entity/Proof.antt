@@ -1,0 +1,21 @@
+-- `trace::fields::version_entity` meets its contract. The field is one read at its place in the row.
+use borrow.Author.Needs.{needs}
+use Rattle.rows.specs.Rows.{versionAt}
+use Rattle.trace.proofs.fields.version_entity.Statement.{statement}
+use Rattle.trace.proofs.fields.version_entity.Tie as tie
+
+cast-at : tie.Need-cast-at
+cast-at c = search needs
+
+mul-at : tie.Need-mul-at
+mul-at c = search needs
+
+at-requires : tie.Need-at-requires
+at-requires c κs = search needs
+
+returns : tie.Need-returns
+unfolding versionAt
+returns c = cc
+
+pub version-entity-spec : {M : Type 1} → statement M
+version-entity-spec = tie.close (tie.spec cast-at mul-at at-requires returns)

@@ -1,0 +1,35 @@
+-- `trace::trace_back` meets its contract. Sound tables make the marks, their entities and the count those of document 01.
+use borrow.Author.Needs.{needs}
+use Rattle.trace.proofs.BackAnswer.{backward-passed}
+use Rattle.trace.proofs.Checked.{work-fits, marks-fit}
+use Rattle.trace.proofs.trace_back.Statement.{statement}
+use Rattle.trace.proofs.trace_back.Tie as tie
+
+start-version-requires : tie.Need-start-version-requires
+start-version-requires c κs = search needs
+
+mark-back-requires : tie.Need-mark-back-requires
+mark-back-requires c κs = search work-fits
+
+mark-entities-requires : tie.Need-mark-entities-requires
+mark-entities-requires c κs = search marks-fit
+
+same-length : tie.Need-same-length
+same-length c = search needs
+
+same-length-2 : tie.Need-same-length-2
+same-length-2 c = search needs
+
+returns : tie.Need-returns
+returns c = search backward-passed
+
+pub trace-back-spec : {M : Type 1} → statement M
+trace-back-spec =
+    tie.close
+    (tie.spec
+    start-version-requires
+    mark-back-requires
+    mark-entities-requires
+    same-length
+    same-length-2
+    returns)

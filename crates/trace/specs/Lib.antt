@@ -1,0 +1,5 @@
+pub mod Followed
+pub mod TraceArcs
+pub mod Owners
+pub mod Intake
+pub mod Answers

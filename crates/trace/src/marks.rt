@@ -1,0 +1,75 @@
+// Buffers of marks: 1 where a version or an entity is marked, else 0.
+use rows::VersionNo;
+ghost use Prim.Native.Nat.{_≤_};
+ghost use mathlib.Core.Path.{_≡_};
+ghost use mathlib.Core.Bool.{_||_};
+ghost use mathlib.Core.List.{[], _∷_, _++_};
+ghost use lib.ListN.{length, getD, set, drop, replicate};
+ghost use lib.Dec.{eqb};
+ghost use Rattle.rules.specs.Marks.{arc};
+ghost use Rattle.trace.specs.Followed.{Followed};
+
+// The byte at i, 0 past the end.
+fn byte_at(xs: &[u8], i: usize) -> u8
+    ensures { λ r. ⌜ r ≡ getD (now (xs .entry)) i 0 ⌝ }
+{
+    if i < xs.len() { xs[i] } else { 0 }
+}
+
+// Writes v at i; past the end it changes nothing.
+fn put_byte(xs: &mut [u8], i: usize, v: u8)
+    ensures { λ _. ⌜ now (xs .exit) ≡ set (now (xs .entry)) i v ⌝ }
+{
+    if i < xs.len() {
+        xs[i] = v;
+    }
+}
+
+// Whether place i is marked.
+pub fn marked(m: &[u8], i: u32) -> bool
+    ensures { λ r. ⌜ r ≡ eqb (getD (now (m .entry)) i 0) 1 ⌝ }
+{
+    byte_at(m, i as usize) == 1
+}
+
+// Marks place i.
+pub fn mark(m: &mut [u8], i: u32)
+    ensures { λ _. ⌜ now (m .exit) ≡ set (now (m .entry)) i 1 ⌝ }
+{
+    put_byte(m, i as usize, 1);
+}
+
+// Takes the marks of the first n places away.
+pub fn clear(m: &mut [u8], n: u32)
+    requires { ⌜ n ≤ length (now m) ⌝ }
+    ensures { λ _. ⌜ now (m .exit) ≡ replicate n 0 ++ drop n (now (m .entry)) ⌝ }
+{
+    let mut i: u32 = 0;
+    while i < n {
+        put_byte(m, i as usize, 0);
+        i += 1;
+    }
+}
+
+pub fn either(a: bool, b: bool) -> bool
+    ensures { λ r. ⌜ r ≡ a || b ⌝ }
+{
+    if a {
+        return true;
+    }
+    b
+}
+
+// Marks version `to` where `from` is marked, and says whether that is a new mark.
+pub fn follow_arc(m: &mut [u8], from: VersionNo, to: VersionNo) -> bool
+    ensures { λ r. ⌜ Followed (arc (from .0) (to .0) ∷ []) (now (m .entry)) r (now (m .exit)) ⌝ }
+{
+    if marked(m, to.0) {
+        return false;
+    }
+    if marked(m, from.0) {
+        mark(m, to.0);
+        return true;
+    }
+    false
+}

@@ -1,0 +1,141 @@
+//! Tables full up to the caps, and lent with more rows than they allow.
+
+use crate::comparison::{Compared, Comparison};
+use reference::capacity::{
+    EDGE_ROW, ENTITY_ROW, MOST_ACCEPTED, MOST_EDGES, MOST_ENTITIES, MOST_VERSIONS, VERSION_ROW,
+};
+use reference::generate::{
+    large_tables, lend_anew, long_file_event, tables_with_edges, tables_with_entities,
+    tables_with_versions,
+};
+use reference::{FileBuilder, Kind, Random, TableLengths, Tables};
+
+/// Rows in use that are missing to the caps.
+const MISSING: u32 = 40;
+/// Traces on tables with all rows in use.
+const FULL_TRACES: usize = 5;
+
+/// One table at a time, one row below its cap, at it and above it.
+pub fn each_cap(comparison: &mut Comparison, random: &mut Random) -> Compared {
+    let declarations = FileBuilder::new().object(4_095).object(4_096).bytes();
+    for count in [4_095, 4_096, 4_097] {
+        let tables = tables_with_entities(count);
+        at_cap(comparison, random, &tables, &declarations)?;
+    }
+    let events = FileBuilder::new().read(2, 0, 70_000).write(0, 1, 70_001);
+    let events = events.read(1, 0, 70_002).bytes();
+    let declarations = FileBuilder::new().object(3).object(4).bytes();
+    for count in [65_535, 65_536, 65_537] {
+        let tables = tables_with_versions(count);
+        at_cap(comparison, random, &tables, &events)?;
+        at_cap(comparison, random, &tables, &declarations)?;
+    }
+    let events = FileBuilder::new().read(2, 0, 300_000).read(2, 0, 300_001);
+    let events = events.write(0, 2, 300_002).bytes();
+    for count in [262_143, 262_144, 262_145] {
+        let tables = tables_with_edges(count);
+        at_cap(comparison, random, &tables, &events)?;
+    }
+    Ok(())
+}
+
+fn at_cap(
+    comparison: &mut Comparison,
+    random: &mut Random,
+    tables: &Tables,
+    file: &[u8],
+) -> Compared {
+    comparison.batch(&mut tables.clone(), file.to_vec())?;
+    let (entities, last) = (tables.counts.entities, tables.counts.last);
+    for entity in [0, 1, entities - 1, entities] {
+        for time in [0, last / 2, last] {
+            comparison.traces(tables, entity, time)?;
+        }
+    }
+    comparison.kept_logs(tables)?;
+    comparison.each_call(random, tables)
+}
+
+/// Accepted one below its cap, at it and above it.
+pub fn accepted_cap(comparison: &mut Comparison, random: &mut Random) -> Compared {
+    for accepted in [MOST_ACCEPTED - 1, MOST_ACCEPTED, MOST_ACCEPTED + 1] {
+        let mut tables = large_tables(random, 6, 20, 30);
+        let lengths = TableLengths::of_rows(9, 40, 40);
+        tables = lend_anew(random, &tables, lengths);
+        tables.counts.accepted = accepted;
+        for kind in Kind::ALL {
+            let file = events_after(random, &tables, &[kind], 3);
+            comparison.batch(&mut tables.clone(), file)?;
+        }
+        let declaration = FileBuilder::new().object(6).bytes();
+        comparison.batch(&mut tables.clone(), declaration)?;
+        comparison.each_call(random, &tables)?;
+    }
+    Ok(())
+}
+
+/// All three tables full, each with some rows lent past its cap.
+pub fn all_full(comparison: &mut Comparison, random: &mut Random) -> Compared {
+    let caps = [MOST_ENTITIES, MOST_VERSIONS, MOST_EDGES].map(|cap| cap as u32);
+    let tables = large_tables(random, caps[0], caps[1], caps[2]);
+    let lengths = lengths_past_caps();
+    let tables = lend_anew(random, &tables, lengths);
+    for _ in 0..FULL_TRACES {
+        let entity = random.below(MOST_ENTITIES) as u32;
+        let time = random.between(0, tables.counts.last);
+        comparison.traces(&tables, entity, time)?;
+    }
+    comparison.kept_logs(&tables)?;
+    let declaration = FileBuilder::new().object(4_096).bytes();
+    comparison.batch(&mut tables.clone(), declaration)?;
+    let events = events_after(random, &tables, &Kind::ALL, 9);
+    comparison.batch(&mut tables.clone(), events)?;
+    spoilt_last_rows(comparison, random, &tables)
+}
+
+fn lengths_past_caps() -> TableLengths {
+    TableLengths::of_rows(MOST_ENTITIES + 2, MOST_VERSIONS + 3, MOST_EDGES + 4)
+}
+
+/// The last row of each table, not sound.
+fn spoilt_last_rows(comparison: &mut Comparison, random: &mut Random, tables: &Tables) -> Compared {
+    let mut spoilt = tables.clone();
+    spoilt.entities[(MOST_ENTITIES - 1) * ENTITY_ROW] = 2;
+    comparison.each_call(random, &spoilt)?;
+    let mut spoilt = tables.clone();
+    spoilt.versions[(MOST_VERSIONS - 1) * VERSION_ROW] = MOST_ENTITIES as u32;
+    comparison.each_call(random, &spoilt)?;
+    let mut spoilt = tables.clone();
+    spoilt.edges[(MOST_EDGES - 1) * EDGE_ROW + 3] = 1;
+    comparison.each_call(random, &spoilt)
+}
+
+/// All three tables nearly full, then filled by batches.
+pub fn nearly_full(comparison: &mut Comparison, random: &mut Random) -> Compared {
+    let rows = [MOST_ENTITIES, MOST_VERSIONS, MOST_EDGES].map(|cap| cap as u32 - MISSING);
+    let tables = large_tables(random, rows[0], rows[1], rows[2]);
+    let mut tables = lend_anew(random, &tables, lengths_past_caps());
+    let events = events_after(random, &tables, &Kind::ALL, 60);
+    comparison.batch(&mut tables.clone(), events)?;
+    let repeats = [Kind::Read, Kind::Write, Kind::Load];
+    let events = events_after(random, &tables, &repeats, 60);
+    comparison.batch(&mut tables, events)?;
+    let mut declarations = FileBuilder::new();
+    for number in rows[0]..=rows[0] + MISSING {
+        declarations = declarations.subject(number as u16);
+    }
+    comparison.batch(&mut tables, declarations.bytes())?;
+    comparison.kept_logs(&tables)
+}
+
+/// A file of events that go on from tables with objects at even and subjects
+/// at odd numbers.
+fn events_after(random: &mut Random, tables: &Tables, kinds: &[Kind], count: u32) -> Vec<u8> {
+    let entities = tables.counts.entities as u16;
+    let mut file = FileBuilder::new();
+    for later in 1..=count {
+        let time = tables.counts.last + later;
+        file = file.event(long_file_event(random, entities, kinds, time));
+    }
+    file.bytes()
+}

@@ -1,0 +1,32 @@
+//! Batches refused for each reason, and batches of any file on any tables.
+
+use crate::comparison::{Compared, Comparison};
+use reference::generate::calls::batch_on;
+use reference::generate::{grown_tables, refused_batch, sound_tables, BatchFault};
+use reference::Random;
+
+const PER_FAULT: usize = 12;
+const BATCHES: usize = 400;
+
+/// The reference must give the number the fault is made for.
+pub fn batch_faults(comparison: &mut Comparison, random: &mut Random) -> Compared {
+    for fault in BatchFault::ALL {
+        for _ in 0..PER_FAULT {
+            let mut case = refused_batch(random, fault);
+            let answer = comparison.batch(&mut case.tables, case.file)?;
+            assert_eq!(answer.refusal(), case.refusal, "{fault:?}");
+        }
+    }
+    Ok(())
+}
+
+pub fn any_batches(comparison: &mut Comparison, random: &mut Random) -> Compared {
+    for _ in 0..BATCHES {
+        let tables = match random.below(2) {
+            0 => grown_tables(random, 40),
+            _ => sound_tables(random),
+        };
+        comparison.call(&tables, batch_on(random, &tables))?;
+    }
+    Ok(())
+}

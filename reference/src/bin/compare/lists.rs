@@ -1,0 +1,145 @@
+//! Lists of calls that start from a fresh trail, beside the full list of
+//! accepted events.
+
+use crate::calls::{times_of, traces, BufferLengths};
+use crate::comparison::{Compared, Comparison, Made};
+use crate::difference::{differ, Difference};
+use reference::generate::{call_list, lend_anew, LentCall};
+use reference::{Answer, Call, Capacity, FullList, Random, TableLengths, Tables};
+
+const LISTS: usize = 60;
+const CALLS: usize = 14;
+/// Traces of each list, beside those in the list itself.
+const TRACES: usize = 60;
+
+pub fn lists_of_calls(comparison: &mut Comparison, random: &mut Random) -> Compared {
+    for _ in 0..LISTS {
+        let mut trail = ListTrail::fresh();
+        for call in call_list(random, CALLS) {
+            trail.run(comparison, random, call)?;
+        }
+        comparison.kept_logs(&trail.tables)?;
+        trail.some_traces(comparison, random)?;
+    }
+    Ok(())
+}
+
+/// The tables and the full list after the same calls.
+pub struct ListTrail {
+    pub tables: Tables,
+    pub list: FullList,
+}
+
+impl ListTrail {
+    pub fn fresh() -> ListTrail {
+        ListTrail {
+            tables: Tables::fresh(TableLengths::of_rows(0, 0, 0)),
+            list: FullList::new(),
+        }
+    }
+
+    /// Makes the call in tables lent anew.
+    fn run(
+        &mut self,
+        comparison: &mut Comparison,
+        random: &mut Random,
+        lent: LentCall,
+    ) -> Compared {
+        self.tables = lend_anew(random, &self.tables, lent.lengths);
+        self.call(comparison, lent.call)
+    }
+
+    /// Makes the call and compares it with the full list too.
+    pub fn call(&mut self, comparison: &mut Comparison, call: Call) -> Compared {
+        let made = comparison.call(&self.tables, call.clone())?;
+        let capacity = self.tables.view().capacity();
+        let (answer, marks) = run_on_list(&mut self.list, capacity, call.clone());
+        let place = differ_from_list(&made, &self.list, answer, marks);
+        match place {
+            Some(place) => Err(Difference::new(&self.tables, &call, place)),
+            None => {
+                self.tables = made.tables;
+                Ok(())
+            }
+        }
+    }
+
+    /// Both traces of each entity at each time, or as many as there is time
+    /// for.
+    fn some_traces(&mut self, comparison: &mut Comparison, random: &mut Random) -> Compared {
+        let mut places = self.trace_places();
+        random.shuffle(&mut places);
+        places.truncate(TRACES);
+        for (entity, time) in places {
+            self.traces(comparison, entity, time)?;
+        }
+        Ok(())
+    }
+
+    /// Both traces of each entity at each time.
+    pub fn all_traces(&mut self, comparison: &mut Comparison) -> Compared {
+        for (entity, time) in self.trace_places() {
+            self.traces(comparison, entity, time)?;
+        }
+        Ok(())
+    }
+
+    fn traces(&mut self, comparison: &mut Comparison, entity: u32, time: u32) -> Compared {
+        for call in traces(entity, time, BufferLengths::of(self.tables.counts)) {
+            self.call(comparison, call)?;
+        }
+        Ok(())
+    }
+
+    fn trace_places(&self) -> Vec<(u32, u32)> {
+        let times = times_of(&self.tables);
+        let entities = 0..self.tables.counts.entities;
+        let places = entities.flat_map(|entity| times.iter().map(move |time| (entity, *time)));
+        places.collect()
+    }
+}
+
+fn differ_from_list(
+    made: &Made,
+    list: &FullList,
+    answer: Answer,
+    marks: Vec<u8>,
+) -> Option<String> {
+    let counts = list.counts();
+    differ("answer, by the full list", made.answer, answer)
+        .or_else(|| differ("counts, by the full list", made.tables.counts, counts))
+        .or_else(|| differ("marks, by the full list", marks_of(&made.call), &marks))
+}
+
+fn marks_of(call: &Call) -> &[u8] {
+    match call {
+        Call::Backward { marks, .. } | Call::Forward { marks, .. } => marks,
+        _ => &[],
+    }
+}
+
+/// The answer of the full list and the mark buffer of a trace.
+fn run_on_list(list: &mut FullList, capacity: Capacity, call: Call) -> (Answer, Vec<u8>) {
+    match call {
+        Call::Batch { file } => (Answer::Batch(list.batch(capacity, &file)), Vec::new()),
+        Call::Backward {
+            entity,
+            time,
+            work,
+            mut marks,
+        } => {
+            let answer = list.backward(entity, time, work.len(), &mut marks);
+            (Answer::Backward(answer), marks)
+        }
+        Call::Forward {
+            entity,
+            time,
+            work,
+            mut marks,
+        } => {
+            let answer = list.forward(entity, time, work.len(), &mut marks);
+            (Answer::Forward(answer), marks)
+        }
+        Call::KeptLog { .. } => panic!("a list of calls has batches and traces"),
+    }
+}

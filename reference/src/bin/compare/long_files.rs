@@ -1,0 +1,102 @@
+//! Long files taken into a fresh trail, up to the caps.
+
+use crate::calls::{kept_log, log_length};
+use crate::comparison::{Compared, Comparison};
+use reference::capacity::{MOST_ACCEPTED, MOST_EDGES, MOST_ENTITIES, MOST_VERSIONS};
+use reference::file::HEADER;
+use reference::generate::long_file;
+use reference::{Answer, Call, Kind, Random, TableLengths, Tables};
+
+const TRACES_AT_CAPS: usize = 2;
+const TRACES: usize = 8;
+
+/// Files refused for want of a version row, of an edge row and of accepted
+/// events, each grown from fresh to the cap.
+pub fn grown_to_caps(comparison: &mut Comparison, random: &mut Random) -> Compared {
+    let entities = MOST_ENTITIES as u16;
+    let file = long_file(random, entities, &Kind::ALL, 300_000);
+    grown_to_cap(comparison, random, file, 11)?;
+    let file = long_file(random, entities, &mostly_into_subjects(), 420_000);
+    grown_to_cap(comparison, random, file, 12)?;
+    let kinds = [Kind::Read, Kind::Load];
+    let file = long_file(random, 40, &kinds, MOST_ACCEPTED as usize + 5);
+    grown_to_cap(comparison, random, file, 13)
+}
+
+/// Few writes, so that few versions are made.
+fn mostly_into_subjects() -> Vec<Kind> {
+    let mut kinds = vec![Kind::Read; 40];
+    kinds.extend([Kind::Execve; 20]);
+    kinds.push(Kind::Write);
+    kinds
+}
+
+fn grown_to_cap(
+    comparison: &mut Comparison,
+    random: &mut Random,
+    file: Vec<u8>,
+    refusal: u32,
+) -> Compared {
+    let lengths = TableLengths::of_rows(MOST_ENTITIES + 1, MOST_VERSIONS + 1, MOST_EDGES + 1);
+    let mut tables = Tables::fresh(lengths);
+    let answer = comparison.batch(&mut tables, file)?;
+    assert_eq!(answer.refusal(), refusal, "the file is made for this cap");
+    some_traces(comparison, random, &tables, TRACES_AT_CAPS)?;
+    taken_in_again(comparison, &tables, lengths)
+}
+
+fn some_traces(
+    comparison: &mut Comparison,
+    random: &mut Random,
+    tables: &Tables,
+    count: usize,
+) -> Compared {
+    for _ in 0..count {
+        let entity = random.below(tables.counts.entities as usize) as u32;
+        let time = random.between(0, tables.counts.last);
+        comparison.traces(tables, entity, time)?;
+    }
+    Ok(())
+}
+
+/// The kept log, and the log taken in again.
+fn taken_in_again(comparison: &mut Comparison, tables: &Tables, lengths: TableLengths) -> Compared {
+    comparison.kept_logs(tables)?;
+    let made = comparison.call(tables, kept_log(log_length(tables.counts)))?;
+    if let (Answer::KeptLog(_), Call::KeptLog { out }) = (made.answer, made.call) {
+        comparison.batch(&mut Tables::fresh(lengths), out)?;
+    }
+    Ok(())
+}
+
+/// Files of some thousand records of many entities, taken in by parts.
+pub fn long_files(comparison: &mut Comparison, random: &mut Random) -> Compared {
+    for events in [300, 3_000] {
+        let entities = random.between(8, 200) as u16;
+        let file = long_file(random, entities, &Kind::ALL, events);
+        let lengths = TableLengths::of_rows(200, 2_500, 3_000);
+        let mut tables = Tables::fresh(lengths);
+        for part in parts(random, &file) {
+            comparison.batch(&mut tables, part)?;
+        }
+        some_traces(comparison, random, &tables, TRACES)?;
+        taken_in_again(comparison, &tables, lengths)?;
+    }
+    Ok(())
+}
+
+/// The records of the file in three files.
+fn parts(random: &mut Random, file: &[u8]) -> Vec<Vec<u8>> {
+    let records = (file.len() - HEADER.len()) / 12;
+    let mut places = [random.below(records + 1), random.below(records + 1)];
+    places.sort_unstable();
+    let offset = |place: usize| HEADER.len() + 12 * place;
+    let [first, second] = places.map(offset);
+    let parts = [
+        &file[HEADER.len()..first],
+        &file[first..second],
+        &file[second..],
+    ];
+    let with_header = |part: &[u8]| [HEADER.as_slice(), part].concat();
+    parts.map(with_header).to_vec()
+}

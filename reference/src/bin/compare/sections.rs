@@ -1,0 +1,101 @@
+//! The sections of the comparison.
+
+use crate::comparison::{Compared, Comparison};
+use crate::{caps, every_file, every_table, faults, lengths, lists, long_files};
+use crate::{tables, worked_trail};
+use reference::Random;
+
+/// One kind of calls, made from a seed.
+pub struct Section {
+    pub name: &'static str,
+    pub run: fn(&mut Comparison, &mut Random) -> Compared,
+}
+
+/// Made in each round, each time from another seed.
+pub const EACH_ROUND: [Section; 10] = [
+    Section {
+        name: "lists of calls, also by the full list",
+        run: lists::lists_of_calls,
+    },
+    Section {
+        name: "batches refused for each reason",
+        run: faults::batch_faults,
+    },
+    Section {
+        name: "batches of any file on any sound tables",
+        run: faults::any_batches,
+    },
+    Section {
+        name: "tables of every length",
+        run: lengths::every_table_length,
+    },
+    Section {
+        name: "entities, times and buffers at their extremes",
+        run: lengths::extremes,
+    },
+    Section {
+        name: "sound tables of each shape nobody grew",
+        run: tables::sound_shapes,
+    },
+    Section {
+        name: "traces of sound tables nobody grew",
+        run: tables::sound_traces,
+    },
+    Section {
+        name: "unsound tables of each clause",
+        run: tables::unsound_clauses,
+    },
+    Section {
+        name: "tables with any one number changed",
+        run: tables::every_number,
+    },
+    Section {
+        name: "long files by parts",
+        run: long_files::long_files,
+    },
+];
+
+/// Made once.
+pub const ONCE: [Section; 9] = [
+    Section {
+        name: "the worked trail",
+        run: worked_trail::worked_trail,
+    },
+    Section {
+        name: "traces of as many passes as versions",
+        run: tables::many_passes,
+    },
+    Section {
+        name: "every file of few records",
+        run: every_file::every_file,
+    },
+    Section {
+        name: "every short list of events, also by the full list",
+        run: every_file::every_event_list,
+    },
+    Section {
+        name: "every sound table of few rows",
+        run: every_table::every_table,
+    },
+    Section {
+        name: "each table at its cap",
+        run: caps::each_cap,
+    },
+    Section {
+        name: "accepted events at their cap",
+        run: caps::accepted_cap,
+    },
+    Section {
+        name: "all tables full or nearly full",
+        run: full_tables,
+    },
+    Section {
+        name: "long files up to the caps",
+        run: long_files::grown_to_caps,
+    },
+];
+
+fn full_tables(comparison: &mut Comparison, random: &mut Random) -> Compared {
+    caps::nearly_full(comparison, random)?;
+    caps::all_full(comparison, random)
+}

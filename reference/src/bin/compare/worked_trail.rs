@@ -1,0 +1,83 @@
+//! The worked trail: every cut and many damages of its file, every small
+//! capacity, every length of its tables, all its traces.
+
+use crate::comparison::{Compared, Comparison};
+use reference::generate::lend_anew;
+use reference::{FileBuilder, Random, TableLengths, Tables};
+
+/// The event file of the worked trail.
+pub fn worked_file() -> Vec<u8> {
+    FileBuilder::new()
+        .object(0)
+        .subject(1)
+        .object(2)
+        .object(3)
+        .read(0, 1, 1)
+        .write(1, 2, 2)
+        .read(0, 1, 3)
+        .write(1, 2, 4)
+        .read(3, 1, 5)
+        .write(1, 2, 6)
+        .read(3, 1, 7)
+        .bytes()
+}
+
+/// A fresh trail in tables of these lengths, which hold anything.
+fn fresh(random: &mut Random, lengths: TableLengths) -> Tables {
+    lend_anew(random, &Tables::fresh(lengths), lengths)
+}
+
+/// The tables of the worked trail.
+pub fn worked_tables() -> Tables {
+    let mut tables = Tables::fresh(TableLengths::of_rows(8, 9, 8));
+    tables.batch(&worked_file());
+    tables
+}
+
+pub fn worked_trail(comparison: &mut Comparison, random: &mut Random) -> Compared {
+    cuts(comparison, random)?;
+    damages(comparison, random)?;
+    capacities(comparison, random)?;
+    let tables = worked_tables();
+    comparison.all_traces(&tables)?;
+    comparison.kept_logs(&tables)
+}
+
+fn cuts(comparison: &mut Comparison, random: &mut Random) -> Compared {
+    let file = worked_file();
+    for length in 0..=file.len() {
+        let mut tables = fresh(random, TableLengths::of_rows(5, 6, 5));
+        comparison.batch(&mut tables, file[..length].to_vec())?;
+    }
+    Ok(())
+}
+
+/// Each byte of the file with several other values.
+fn damages(comparison: &mut Comparison, random: &mut Random) -> Compared {
+    for place in 0..worked_file().len() {
+        for other in [1, 2, 3, 4, 6, 8, 0x80, 0xFF] {
+            let mut file = worked_file();
+            file[place] ^= other;
+            let mut tables = fresh(random, TableLengths::of_rows(5, 6, 5));
+            comparison.batch(&mut tables, file)?;
+        }
+    }
+    Ok(())
+}
+
+/// Every capacity up to one row more than the trail asks for, with a part row
+/// at the end or not.
+fn capacities(comparison: &mut Comparison, random: &mut Random) -> Compared {
+    for entities in 0..=5 {
+        for versions in 0..=6 {
+            for edges in 0..=5 {
+                let mut lengths = TableLengths::of_rows(entities, versions, edges);
+                lengths.entities += random.below(2);
+                lengths.versions += random.below(4);
+                lengths.edges += random.below(4);
+                comparison.batch(&mut fresh(random, lengths), worked_file())?;
+            }
+        }
+    }
+    Ok(())
+}

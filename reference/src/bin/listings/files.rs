@@ -1,0 +1,108 @@
+//! The files the listing program is run on.
+
+use reference::file::HEADER_BYTES;
+use reference::generate::{any_file, careless_file, damaged_file, long_file, RecordSource};
+use reference::listing::MOST_BYTES;
+use reference::{FileBuilder, Kind, Random};
+
+const ANY: usize = 250;
+const CARELESS: usize = 150;
+const LONGEST: usize = 12;
+/// Records in the longest file.
+const MOST_RECORDS: u16 = 2_730;
+
+pub fn files(random: &mut Random) -> Vec<Vec<u8>> {
+    let mut files = vec![FileBuilder::new().bytes()];
+    files.extend(cuts(&worked_file(1)));
+    files.push(worked_file(0));
+    files.extend(damaged_headers(&worked_file(1)));
+    files.extend(any_files(random));
+    files.extend(longest_files(random));
+    files.extend(files_too_long(random));
+    files
+}
+
+/// The event file of the worked trail, its first event at this time.
+fn worked_file(time: u32) -> Vec<u8> {
+    FileBuilder::new()
+        .object(0)
+        .subject(1)
+        .object(2)
+        .object(3)
+        .read(0, 1, time)
+        .write(1, 2, 2)
+        .read(0, 1, 3)
+        .write(1, 2, 4)
+        .read(3, 1, 5)
+        .write(1, 2, 6)
+        .read(3, 1, 7)
+        .bytes()
+}
+
+/// The file up to each of its bytes, none and all included.
+fn cuts(file: &[u8]) -> Vec<Vec<u8>> {
+    (0..=file.len())
+        .map(|length| file[..length].to_vec())
+        .collect()
+}
+
+/// Each byte of the header with other values.
+fn damaged_headers(file: &[u8]) -> Vec<Vec<u8>> {
+    let mut files = Vec::new();
+    for place in 0..HEADER_BYTES {
+        for other in [1, 2, 0x80] {
+            let mut damaged = file.to_vec();
+            damaged[place] ^= other;
+            files.push(damaged);
+        }
+    }
+    files
+}
+
+/// Good, careless, damaged and cut files.
+fn any_files(random: &mut Random) -> Vec<Vec<u8>> {
+    let mut files = Vec::new();
+    for _ in 0..ANY {
+        let records = random.below(60);
+        files.push(any_file(random, &mut RecordSource::fresh(), records));
+    }
+    for _ in 0..CARELESS {
+        let records = random.below(40);
+        files.push(careless_file(random, &mut RecordSource::fresh(), records));
+    }
+    files
+}
+
+/// Files of 2,730 records, as they are, damaged and cut.
+fn longest_files(random: &mut Random) -> Vec<Vec<u8>> {
+    let mut files = vec![declarations(MOST_RECORDS).bytes()];
+    for _ in 0..LONGEST {
+        let entities = random.between(4, 60) as u16;
+        let events = usize::from(MOST_RECORDS - entities);
+        let file = long_file(random, entities, &Kind::ALL, events);
+        files.push(damaged_file(random, &file));
+        files.push(file[..MOST_BYTES - 1 - random.below(24)].to_vec());
+        files.push(file);
+    }
+    files
+}
+
+/// Files longer than the listing program takes, by one byte or by many.
+fn files_too_long(random: &mut Random) -> Vec<Vec<u8>> {
+    let longest = declarations(MOST_RECORDS);
+    vec![
+        longest.clone().raw(&[0]).bytes(),
+        longest.clone().raw(&[0; 11]).bytes(),
+        longest.object(MOST_RECORDS).bytes(),
+        vec![0; MOST_BYTES + 1],
+        random.bytes(MOST_BYTES + 1),
+        random.bytes(2 * MOST_BYTES),
+        random.bytes(40_000),
+        random.bytes(200_000),
+        vec![0; MOST_BYTES],
+    ]
+}
+
+fn declarations(count: u16) -> FileBuilder {
+    (0..count).fold(FileBuilder::new(), |file, number| file.object(number))
+}
