@@ -9,6 +9,11 @@
 //! - The trail over the full list of accepted events: [`FullList`].
 //! - The text of the listing program: [`listing()`].
 //! - Files and tables to try them on: [`FileBuilder`] and [`generate`].
+//!
+//! The program `compare` compares the library's archive with this trail call
+//! by call. It takes the feature `archive`:
+//! `cargo run --release --features archive --bin compare`. The program
+//! `listings` does the same for the listing program.
 
 pub mod answers;
 #[cfg(feature = "archive")]

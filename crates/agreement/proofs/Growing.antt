@@ -34,14 +34,14 @@ neither true b q = absurd (let z : _≡_ {A = ℕ} 0 1 = cc in omega arith)
 neither false b q = (refl, q)
 
 -- edge k goes from version f to a version of entity x
-abbrev Goes : (ℕ → EdgeRow) → (ℕ → VersionRow) → ℕ → ℕ → ℕ → Type 0
+abbrev pub Goes : (ℕ → EdgeRow) → (ℕ → VersionRow) → ℕ → ℕ → ℕ → Type 0
 Goes E W f x k = (E k .from .0 ≡ f) × (W (E k .to .0) .entity .0 ≡ x)
 
 goesTo-true : (E : ℕ → EdgeRow) (W : ℕ → VersionRow) (f x k : ℕ) → goesTo E W f x k ≡ true → Goes E W f x k
 unfolding goesTo
 goesTo-true E W f x k q = let z = both _ _ q in (eqb-true _ _ (z .0), eqb-true _ _ (z .1))
 
-newestTo-found : (E : ℕ → EdgeRow) (W : ℕ → VersionRow) (f x n : ℕ) (k : EdgeNo) → newestTo E W f x n ≡ At k → (k .0 < n) × Goes E W f x (k .0)
+pub newestTo-found : (E : ℕ → EdgeRow) (W : ℕ → VersionRow) (f x n : ℕ) (k : EdgeNo) → newestTo E W f x n ≡ At k → (k .0 < n) × Goes E W f x (k .0)
 unfolding newestTo
 newestTo-found E W f x zero k h = absurd (let z : _≡_ {A = ℕ} 0 1 = cc in omega arith)
 newestTo-found E W f x (suc n) k h = go (goesTo E W f x n) refl (λ q. newestTo-found E W f x n k q) h
@@ -52,7 +52,7 @@ newestTo-found E W f x (suc n) k h = go (goesTo E W f x n) refl (λ q. newestTo-
     go false q ih h = let z = ih h in (omega (arith, z .0), z .1)
 
 -- where none leaves f, no edge below n does
-leaves-none : (E : ℕ → EdgeRow) (f n : ℕ) → leaves E f n ≡ false → (k : ℕ) → k < n → E k .from .0 ≡ f → ⊥
+pub leaves-none : (E : ℕ → EdgeRow) (f n : ℕ) → leaves E f n ≡ false → (k : ℕ) → k < n → E k .from .0 ≡ f → ⊥
 unfolding leaves
 leaves-none E f zero h k l p = omega arith
 leaves-none E f (suc n) h k l p =

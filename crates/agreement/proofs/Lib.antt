@@ -5,7 +5,20 @@ pub mod Changed
 pub mod Growing
 pub mod Plain
 -- The list of calls, and demand 3
-pub mod Contents
 pub mod Matching
 pub mod Held
 pub mod Demand3
+-- The kept log taken in again
+pub mod KeptOnly
+pub mod Recent
+pub mod Decided
+pub mod Passing
+pub mod Relogged
+pub mod Again
+pub mod IntakeAgain
+pub mod TracesAgain
+pub mod SameCalls
+pub mod Times
+pub mod TakenAll
+pub mod Log
+pub mod RoundTrip

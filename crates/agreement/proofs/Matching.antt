@@ -20,7 +20,7 @@ use Rattle.rules.specs.PlainList.{worked, itemsOf, added, addedBy}
 use Rattle.rules.specs.Batch.{Batched, batched, unless, contentsOf, takeIn, batchChecks, batchOf}
 use Rattle.rules.specs.Calls.{Call, batch, backward, forward, Held, heldAfter, Lent, AllLent, plainAfter}
 use Rattle.soundness.specs.Facts.{CountFacts, RowFacts}
-use Rattle.soundness.specs.Taken.{SortFits}
+use Rattle.soundness.specs.Taken.{SortFits, SortsFit}
 use Rattle.soundness.proofs.Passes.{facts-sound}
 use Rattle.soundness.proofs.TableStep.{step-checked, step-capacity, step-trail, step-sound}
 use Rattle.closure.proofs.SameFacts.{rowFacts-same}
@@ -28,7 +28,7 @@ use Rattle.agreement.specs.Taken.{greatest, Within, Taken, begun, next}
 use Rattle.agreement.proofs.Judged.{refusal-same}
 use Rattle.agreement.proofs.Changed.{Alike, changed-alike}
 use Rattle.agreement.proofs.Plain.{Fine, taken-fine}
-use Rattle.agreement.proofs.Contents.{AllFit, contents-fit}
+use Rattle.soundness.proofs.Decoded.{contents-fit}
 
 pub record Matches (h : Held) (rs : List Record) : Type 0 where
   pub taken : Taken rs
@@ -93,12 +93,12 @@ pub record Ready (cap : Capacity) (c : Counts) (t : Tables) (rs : List Record) :
 module _ (cap : Capacity) (w : Within cap) where
   module _ (c : Counts) (t : Tables) (rs : List Record) (y : Ready cap c t rs) (r : Record) where
     -- the record is refused alike over the tables and over the plain list
-    checked-same : stepOf c t r .checked ≡ refusalOf cap (worked rs) r
+    pub checked-same : stepOf c t r .checked ≡ refusalOf cap (worked rs) r
     checked-same =
         step-checked c t r ∙ ap (λ (k : Capacity). refusalOf k (trailOf c t) r) (y .capacity)
         ∙ sym (refusal-same (y .alike .counts) (y .alike .rows) (taken-fine (y .taken) .rows) cap r)
 
-    ready-next : SortFits r → refusalOf cap (worked rs) r ≡ Passed → Ready cap (stepOf c t r .counts) (stepOf c t r .tables) (r ∷ rs)
+    pub ready-next : SortFits r → refusalOf cap (worked rs) r ≡ Passed → Ready cap (stepOf c t r .counts) (stepOf c t r .tables) (r ∷ rs)
     ready-next s h =
         let p : stepOf c t r .checked ≡ Passed = checked-same ∙ h in
         record {
@@ -110,7 +110,7 @@ module _ (cap : Capacity) (w : Within cap) where
           capacity = step-capacity c t r ∙ y .capacity;
         }
 
-  takeIn-ready : (c : Counts) (t : Tables) (rs : List Record) → Ready cap c t rs → (n : ℕ) (more : List Record) (ending : Checked) → AllFit more
+  takeIn-ready : (c : Counts) (t : Tables) (rs : List Record) → Ready cap c t rs → (n : ℕ) (more : List Record) (ending : Checked) → SortsFit more
       → Ready cap (takeIn c t n more ending .counts) (takeIn c t n more ending .tables) (added cap rs more)
   unfolding takeIn added
   takeIn-ready c t rs y n [] ending a = y

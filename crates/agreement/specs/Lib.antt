@@ -1,2 +1,3 @@
 pub mod Taken
 pub mod Demand3
+pub mod RoundTrip

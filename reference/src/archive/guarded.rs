@@ -2,6 +2,7 @@
 //! before and after it.
 
 use super::Overrun;
+use crate::random::Random;
 
 /// The least number of guard values on each side.
 const LEAST_GUARD: usize = 24;
@@ -14,18 +15,24 @@ pub trait GuardValue: Copy + Eq {
 
 impl GuardValue for u8 {
     fn guard(place: usize, salt: u64) -> u8 {
-        (mix(place, salt) >> 56) as u8
+        mix(place, salt) as u8
     }
 }
 
 impl GuardValue for u32 {
     fn guard(place: usize, salt: u64) -> u32 {
-        (mix(place, salt) >> 32) as u32
+        mix(place, salt) as u32
     }
 }
 
+/// Any numbers, or for every other salt numbers from 0 to 3.
 fn mix(place: usize, salt: u64) -> u64 {
-    (place as u64 ^ (salt << 16)).wrapping_mul(0x9E37_79B9_7F4A_7C15)
+    let bits = Random::new(place as u64 ^ (salt << 16)).bits();
+    if salt.is_multiple_of(2) {
+        bits
+    } else {
+        bits % 4
+    }
 }
 
 pub struct Guarded<T> {

@@ -54,13 +54,22 @@ pub fn every_length(count: u32, row: usize) -> Vec<usize> {
     (0..=(count as usize + 2) * row).collect()
 }
 
-/// The counts and the rows in use in tables of other lengths; what fills the
-/// rest of the tables is random. Tables too short lose the rows at the end.
+/// Numbers after the rows in use: any, small ones, or those rows once more.
+fn filling(random: &mut Random, in_use: &[u32], length: usize) -> Vec<u32> {
+    match random.below(3) {
+        0 if !in_use.is_empty() => in_use.iter().copied().cycle().take(length).collect(),
+        1 => (0..length).map(|_| random.between(0, 7)).collect(),
+        _ => random.numbers(length),
+    }
+}
+
+/// The counts and the rows in use in tables of other lengths, the rest filled
+/// with anything. Tables too short lose the rows at the end.
 pub fn lend_anew(random: &mut Random, tables: &Tables, lengths: TableLengths) -> Tables {
     let mut table = |old: &[u32], in_use: usize, length: usize| {
-        let mut table = random.numbers(length);
         let kept = in_use.min(length).min(old.len());
-        table[..kept].copy_from_slice(&old[..kept]);
+        let mut table = old[..kept].to_vec();
+        table.extend(filling(random, &old[..kept], length - kept));
         table
     };
     let counts = tables.counts;

@@ -14,4 +14,5 @@ mod records;
 mod refusals;
 mod soundness;
 mod tables_nobody_grew;
+mod two_passes;
 mod worked_trail;

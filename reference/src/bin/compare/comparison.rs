@@ -25,6 +25,11 @@ pub struct Comparison {
 }
 
 impl Comparison {
+    /// Begins with the guard values anew, so that a section can be repeated.
+    pub fn begin_section(&mut self) {
+        self.archive = Archive::new();
+    }
+
     /// Makes the call by both and compares the answers, the counts and every
     /// number and byte lent.
     pub fn call(&mut self, tables: &Tables, call: Call) -> Compared<Made> {

@@ -2,8 +2,10 @@
 
 use crate::comparison::{Compared, Comparison};
 use reference::generate::calls::batch_on;
-use reference::generate::{grown_tables, refused_batch, sound_tables, BatchFault};
-use reference::Random;
+use reference::generate::{
+    grown_tables, large_tables, lend_anew, odd_lengths, refused_batch, sound_tables, BatchFault,
+};
+use reference::{Random, Tables};
 
 const PER_FAULT: usize = 12;
 const BATCHES: usize = 400;
@@ -20,11 +22,19 @@ pub fn batch_faults(comparison: &mut Comparison, random: &mut Random) -> Compare
     Ok(())
 }
 
+/// Sound tables nobody grew, of some dozen rows.
+fn middle_sized(random: &mut Random) -> Tables {
+    let tables = large_tables(random, 8, 30, 60);
+    let lengths = odd_lengths(random, tables.counts);
+    lend_anew(random, &tables, lengths)
+}
+
 pub fn any_batches(comparison: &mut Comparison, random: &mut Random) -> Compared {
     for _ in 0..BATCHES {
-        let tables = match random.below(2) {
+        let tables = match random.below(3) {
             0 => grown_tables(random, 40),
-            _ => sound_tables(random),
+            1 => sound_tables(random),
+            _ => middle_sized(random),
         };
         comparison.call(&tables, batch_on(random, &tables))?;
     }

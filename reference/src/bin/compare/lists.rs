@@ -9,17 +9,23 @@ use reference::{Answer, Call, Capacity, FullList, Random, TableLengths, Tables};
 
 const LISTS: usize = 60;
 const CALLS: usize = 14;
-/// Traces of each list, beside those in the list itself.
+/// One in this many lists gets all its traces at the end.
+const ALL_ONE_IN: usize = 10;
+/// Places traced at the end of each other list.
 const TRACES: usize = 60;
 
 pub fn lists_of_calls(comparison: &mut Comparison, random: &mut Random) -> Compared {
-    for _ in 0..LISTS {
+    for number in 0..LISTS {
         let mut trail = ListTrail::fresh();
         for call in call_list(random, CALLS) {
             trail.run(comparison, random, call)?;
         }
         comparison.kept_logs(&trail.tables)?;
-        trail.some_traces(comparison, random)?;
+        if number % ALL_ONE_IN == 0 {
+            trail.all_traces(comparison)?;
+        } else {
+            trail.some_traces(comparison, random)?;
+        }
     }
     Ok(())
 }
@@ -64,8 +70,7 @@ impl ListTrail {
         }
     }
 
-    /// Both traces of each entity at each time, or as many as there is time
-    /// for.
+    /// Both traces of some entities at some times.
     fn some_traces(&mut self, comparison: &mut Comparison, random: &mut Random) -> Compared {
         let mut places = self.trace_places();
         random.shuffle(&mut places);

@@ -27,7 +27,7 @@ use std::process::ExitCode;
 use std::thread;
 
 const DEFAULT_SEED: u64 = 1;
-const DEFAULT_ROUNDS: u64 = 8;
+const DEFAULT_ROUNDS: u64 = 16;
 /// A batch of the archive takes more than a megabyte of stack.
 const STACK_BYTES: usize = 64 << 20;
 
@@ -101,6 +101,7 @@ impl Run {
 
     fn section(&mut self, section: &Section, seed: u64) -> Result<(), String> {
         eprintln!("  {}", section.name);
+        self.comparison.begin_section();
         let before = self.comparison.tally.calls();
         let mut random = Random::new(seed);
         let compared = (section.run)(&mut self.comparison, &mut random);

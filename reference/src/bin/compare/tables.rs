@@ -112,19 +112,15 @@ fn numbers(tables: &mut Tables) -> Vec<&mut u32> {
     numbers
 }
 
-/// Small numbers, some near the counts and the caps, and some at the top.
+/// Small numbers, some near the counts and the caps, some at the top, and some
+/// that are small again where a row's first number is found in 32 bits.
 fn values(random: &mut Random, tables: &Tables, place: usize) -> Vec<u32> {
     let number = *numbers(&mut tables.clone())[place];
     let counts = tables.counts;
     let mut values: Vec<u32> = (0..8).collect();
     values.extend([counts.entities, counts.versions, counts.edges, counts.last]);
     values.extend([number.wrapping_sub(1), number.wrapping_add(1)]);
-    values.extend([
-        1_000_000,
-        1_000_001,
-        u32::MAX - 1,
-        u32::MAX,
-        random.number(),
-    ]);
+    values.extend([1_000_000, 1_000_001, 1 << 30, (1 << 30) + 1, 1 << 31]);
+    values.extend([u32::MAX - 1, u32::MAX, random.number()]);
     values
 }

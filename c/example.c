@@ -1,0 +1,143 @@
+/*
+ * The worked trail of document 01 through the C calls: its event file is taken in from bytes, then traced both ways and written
+ * out as the kept log. Prints what the calls give, and fails where that differs from the document.
+ */
+#include <stdio.h>
+#include <string.h>
+
+#include "trail.h"
+
+#define ROWS 8
+
+/* The header; then per record: kind, sort, entity or source, target, 0, time, each number little-endian. */
+static const uint8_t file[] = {
+    0x53, 0x4C, 0x54, 1, 0, 0, 0, 0,
+    0, 0, 0, 0, 0, 0, 0, 0, 0, 0, 0, 0, /* 0 object, the study */
+    0, 1, 1, 0, 0, 0, 0, 0, 0, 0, 0, 0, /* 1 subject, the stager */
+    0, 0, 2, 0, 0, 0, 0, 0, 0, 0, 0, 0, /* 2 object, the report */
+    0, 0, 3, 0, 0, 0, 0, 0, 0, 0, 0, 0, /* 3 object, the montage */
+    1, 0, 0, 0, 1, 0, 0, 0, 1, 0, 0, 0, /* time 1: read 0 to 1 */
+    2, 0, 1, 0, 2, 0, 0, 0, 2, 0, 0, 0, /* time 2: write 1 to 2 */
+    1, 0, 0, 0, 1, 0, 0, 0, 3, 0, 0, 0, /* time 3: read 0 to 1 */
+    2, 0, 1, 0, 2, 0, 0, 0, 4, 0, 0, 0, /* time 4: write 1 to 2 */
+    1, 0, 3, 0, 1, 0, 0, 0, 5, 0, 0, 0, /* time 5: read 3 to 1 */
+    2, 0, 1, 0, 2, 0, 0, 0, 6, 0, 0, 0, /* time 6: write 1 to 2 */
+    1, 0, 3, 0, 1, 0, 0, 0, 7, 0, 0, 0, /* time 7: read 3 to 1 */
+};
+
+static slt_counts counts;
+static uint32_t entities[SLT_ENTITY_WIDTH * ROWS];
+static uint32_t versions[SLT_VERSION_WIDTH * ROWS];
+static uint32_t edges[SLT_EDGE_WIDTH * ROWS];
+static uint8_t work[ROWS];
+static uint8_t marks[ROWS];
+static uint8_t log_bytes[SLT_HEADER_LENGTH + SLT_RECORD_LENGTH * 2 * ROWS];
+
+#define LENGTH(array) (sizeof(array) / sizeof((array)[0]))
+#define TABLES entities, LENGTH(entities), versions, LENGTH(versions), edges, LENGTH(edges)
+
+static int wrong;
+
+static void expect(const char *what, int holds)
+{
+    if (!holds) {
+        printf("wrong: %s\n", what);
+        wrong = 1;
+    }
+}
+
+static void print_marks(void)
+{
+    printf(" marks");
+    for (uint32_t x = 0; x < counts.entities; x++) {
+        printf(" %u", marks[x]);
+    }
+    printf("\n");
+}
+
+static int marks_are(uint8_t a, uint8_t b, uint8_t c, uint8_t d)
+{
+    return marks[0] == a && marks[1] == b && marks[2] == c && marks[3] == d;
+}
+
+static void take_in(void)
+{
+    static const uint32_t rows[] = { 0, 1, 1, 1, 1, 2, 2, 2, 3, 4, 1, 5, 4, 2, 2, 6 };
+    slt_batch_answer answer = slt_batch(&counts, TABLES, file, sizeof file);
+    printf("batch refusal %u taken %u\n", answer.refusal, answer.taken);
+    printf("trail %u %u %u %u %u\n", counts.entities, counts.versions, counts.edges, counts.accepted, counts.last);
+    for (uint32_t k = 0; k < counts.edges; k++) {
+        const uint32_t *row = edges + SLT_EDGE_WIDTH * k;
+        printf("edge %u %u %u %u\n", row[0], row[1], row[2], row[3]);
+    }
+    expect("all eleven records are taken in", answer.refusal == SLT_NOT_REFUSED && answer.taken == 11);
+    expect("the counts",
+        counts.entities == 4 && counts.versions == 5 && counts.edges == 4 && counts.accepted == 7 && counts.last == 7);
+    expect("the edges", memcmp(edges, rows, sizeof rows) == 0);
+}
+
+static void trace_backward(uint32_t entity, uint32_t time)
+{
+    slt_backward_answer answer = slt_backward(counts, TABLES, entity, time, work, LENGTH(work), marks, LENGTH(marks));
+    printf("backward %u at %u refusal %u count %u", entity, time, answer.refusal, answer.count);
+    print_marks();
+    expect("the report comes from study and stager",
+        answer.refusal == SLT_NOT_REFUSED && answer.count == 3 && marks_are(1, 1, 1, 0));
+}
+
+static void trace_forward(uint32_t entity, uint32_t time)
+{
+    slt_forward_answer answer = slt_forward(counts, TABLES, entity, time, work, LENGTH(work), marks, LENGTH(marks));
+    printf("forward %u at %u refusal %u count %u intake %u", entity, time, answer.refusal, answer.count, answer.intake);
+    print_marks();
+    expect("the montage reaches stager and report",
+        answer.refusal == SLT_NOT_REFUSED && answer.count == 3 && answer.intake == 0 && marks_are(0, 1, 1, 1));
+}
+
+/* The log is taken in again, into a fresh trail, and gives the same edges. */
+static void write_log(void)
+{
+    slt_log_answer answer = slt_kept_log(counts, TABLES, log_bytes, LENGTH(log_bytes));
+    slt_counts again = { 0, 0, 0, 0, 0 };
+    uint32_t kept[LENGTH(edges)];
+    printf("kept log refusal %u length %u\n", answer.refusal, answer.length);
+    expect("the kept log has 104 bytes", answer.refusal == SLT_NOT_REFUSED && answer.length == 104);
+    memcpy(kept, edges, sizeof kept);
+    slt_batch_answer batch = slt_batch(&again, TABLES, log_bytes, answer.length);
+    printf("kept log again refusal %u taken %u edges %u\n", batch.refusal, batch.taken, again.edges);
+    expect("the kept log is taken in", batch.refusal == SLT_NOT_REFUSED && batch.taken == 8 && again.edges == counts.edges);
+    expect("its edges are those kept", memcmp(kept, edges, sizeof kept) == 0);
+}
+
+/* A refused call writes nothing. */
+static void refused_log(void)
+{
+    uint8_t out[103];
+    memset(out, 0xA5, sizeof out);
+    slt_log_answer answer = slt_kept_log(counts, TABLES, out, sizeof out);
+    printf("kept log in 103 bytes refusal %u length %u\n", answer.refusal, answer.length);
+    expect("103 bytes are too few", answer.refusal == SLT_OUTPUT_SHORT && answer.length == 0);
+    for (size_t i = 0; i < sizeof out; i++) {
+        expect("nothing is written", out[i] == 0xA5);
+    }
+}
+
+static void refused_batch(void)
+{
+    slt_counts before = counts;
+    slt_batch_answer answer = slt_batch(&counts, TABLES, NULL, 0);
+    printf("empty file refusal %u taken %u\n", answer.refusal, answer.taken);
+    expect("an empty file is refused", answer.refusal == SLT_NOT_EVENT_FILE && answer.taken == 0);
+    expect("the counts stay", memcmp(&before, &counts, sizeof before) == 0);
+}
+
+int main(void)
+{
+    take_in();
+    trace_backward(2, 4);
+    trace_forward(3, 0);
+    refused_log();
+    refused_batch();
+    write_log();
+    return wrong;
+}

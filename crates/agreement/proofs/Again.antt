@@ -1,0 +1,191 @@
+-- The kept log as a plain list is taken in again whole: none of its events is a repeat, and as many versions are made.
+use Prim.Native.Nat.{ℕ, _+_, _≤_, _<_}
+use native.Mathlib.Omega.{arith}
+use mathlib.Core.Path.{_≡_, refl, sym, _∙_, ap, subst}
+use mathlib.Core.Bool.{Bool, true, cond}
+use mathlib.Core.List.{List, [], _∷_}
+use Rattle.refusals.specs.declared.Checked.the-variants.{Passed}
+use Rattle.rows.specs.declared.EntityRow.{EntityRow}
+use Rattle.record.specs.declared.Declaration.{Declaration}
+use Rattle.record.specs.declared.Event.{Event}
+use Rattle.record.specs.declared.Record.{Record}
+use Rattle.record.specs.declared.Record.the-variants as records
+use Rattle.record.specs.Layout.{mostSort, kindNo}
+use Rattle.rules.specs.declared.Decision.{Decision}
+use Rattle.rules.specs.declared.Decision.the-variants.{Repeat, Widen, Renew}
+use Rattle.rules.specs.Trail.{Capacity, Trail, fresh}
+use Rattle.rules.specs.Sound.{sourceFits, targetFits}
+use Rattle.rules.specs.Decide.{decisionOf, keeps, makes}
+use Rattle.rules.specs.Record.{declared, happened, refusalOf, changeOf}
+use Rattle.rules.specs.PlainList.{changed, worked, itemsOf}
+use Rattle.rules.specs.History.{Item, kept, itemOf, keptEvents}
+use Rattle.soundness.specs.Taken.{EventTaken}
+use Rattle.soundness.proofs.Taken.{event-taken}
+use Rattle.soundness.proofs.Put.{put-other}
+use Rattle.causality.specs.Working.{Grown}
+use Rattle.agreement.specs.Taken.{Within, Taken, begun, next}
+use Rattle.agreement.specs.RoundTrip.{Room}
+use Rattle.agreement.proofs.Plain.{taken-fine}
+use Rattle.agreement.proofs.KeptOnly.{allKept, keptEvents-allKept}
+use Rattle.agreement.proofs.Decided.{decision-again}
+use Rattle.agreement.proofs.Passing.{event-passes, KeptStep, happened-step}
+use Rattle.agreement.proofs.Relogged.{relogged, TakenBy, takenBy-taken, declares}
+
+-- T is on the way to F: what is to come adds no fewer versions than entities
+pub record Before (T F : Trail) : Type 0 where
+  pub entities : T .counts .entities ≤ F .counts .entities
+  pub versions : T .counts .versions + F .counts .entities ≤ F .counts .versions + T .counts .entities
+  pub edges : T .counts .edges ≤ F .counts .edges
+  pub sorts : (x : ℕ) → x < T .counts .entities → T .entity x .sort ≡ F .entity x .sort
+
+before-declared : (T F : Trail) (d : Declaration) → Before (changed T (declared (T .counts) d)) F → Before T F
+before-declared T F d b = record {
+  entities = omega (arith, b .entities);
+  versions = omega (arith, b .versions);
+  edges = b .edges;
+  sorts = λ x l. ap (λ (r : EntityRow). r .sort) (sym (put-other (T .entity) _ _ x (λ q. omega arith))) ∙ b .sorts x (omega arith);
+}
+
+before-kept : (T T′ F : Trail) (e : Event) (n : ℕ) → KeptStep T T′ e n → Before T′ F → Before T F
+before-kept T T′ F e n s b = record {
+  entities = omega (arith, s .entities, b .entities);
+  versions = omega (arith, s .entities, s .versions, b .versions);
+  edges = omega (arith, s .edges, b .edges);
+  sorts = λ x l. sym (s .sorts x) ∙ b .sorts x (omega (arith, s .entities));
+}
+
+before-event : (T F : Trail) (e : Event) (d : Decision) → Before (changed T (happened T e d)) F → Before T F
+before-event T F e (Repeat k) b = record { entities = b .entities; versions = b .versions; edges = b .edges; sorts = b .sorts }
+before-event T F e Widen b = before-kept T _ F e _ (happened-step T e Widen refl) b
+before-event T F e Renew b = before-kept T _ F e _ (happened-step T e Renew refl) b
+
+-- the kept events of a trail T that goes on to F, worked again after all declarations of F
+pub record Regrown (cap : Capacity) (F T : Trail) (ks : List Event) : Type 0 where
+  pub by : TakenBy cap (relogged F ks)
+  pub items : itemsOf (relogged F ks) ≡ allKept ks
+  pub entities : worked (relogged F ks) .counts .entities ≡ F .counts .entities
+  pub sorts : (x : ℕ) → x < F .counts .entities → worked (relogged F ks) .entity x .sort ≡ F .entity x .sort
+  pub versions : worked (relogged F ks) .counts .versions + T .counts .entities ≡ T .counts .versions + F .counts .entities
+  pub edges : worked (relogged F ks) .counts .edges ≡ T .counts .edges
+  pub accepted : worked (relogged F ks) .counts .accepted ≤ T .counts .accepted
+  pub last : worked (relogged F ks) .counts .last ≤ T .counts .last
+
+module _ (F : Trail) (cap : Capacity) (w : Within cap) (room : Room cap (F .counts)) where
+  -- The events
+  module _ {hs : List Item} (T : Trail) (e : Event) (d : Decision) (cap₀ : Capacity) (g : Grown T hs) (q : decisionOf T e ≡ d) (k : keeps d ≡ true)
+      (p : EventTaken cap₀ T e d) (b : Before (changed T (happened T e d)) F) (r : Regrown cap F T (keptEvents hs)) where
+    abbrev R : List Record
+    R = relogged F (keptEvents hs)
+
+    step : KeptStep T (changed T (happened T e d)) e (cond (makes d) 1 0)
+    step = happened-step T e d k
+
+    before : Before T F
+    before = before-kept T _ F e _ step b
+
+    again : Grown (worked R) (itemsOf R)
+    again = taken-fine (takenBy-taken cap w R (r .by)) .grown
+
+    source-in : e .source .0 < worked R .counts .entities
+    source-in = omega (arith, p .source-in, before .entities, r .entities)
+
+    target-in : e .target .0 < worked R .counts .entities
+    target-in = omega (arith, p .target-in, before .entities, r .entities)
+
+    decided : decisionOf (worked R) e ≡ d
+    decided =
+        decision-again g again (sym (keptEvents-allKept (keptEvents hs)) ∙ ap keptEvents (sym (r .items))) e (p .source-in) (p .target-in) source-in target-in (rw q k) ∙ q
+
+    sort-again : (x : ℕ) → x < T .counts .entities → T .entity x .sort ≡ worked R .entity x .sort
+    sort-again x l = before .sorts x l ∙ sym (r .sorts x (omega (arith, before .entities)))
+
+    more : makes d ≡ true → T .counts .versions + 1 + F .counts .entities ≤ F .counts .versions + T .counts .entities
+    more m = let v : _≡_ {A = ℕ} (cond (makes d) 1 0) 1 = ap (λ (c : Bool). cond {A = ℕ} c 1 0) m in omega (arith, b .versions, step .versions, step .entities)
+
+    taken-again : EventTaken cap (worked R) e d
+    taken-again = record {
+      source-in = source-in;
+      target-in = target-in;
+      apart = p .apart;
+      source-fits = ap (sourceFits (kindNo (e .kind))) (sym (sort-again _ (p .source-in))) ∙ p .source-fits;
+      target-fits = ap (targetFits (kindNo (e .kind))) (sym (sort-again _ (p .target-in))) ∙ p .target-fits;
+      later = omega (arith, p .later, r .last);
+      accepted-left = omega (arith, p .accepted-left, r .accepted);
+      edges-left = λ _. omega (arith, r .edges, step .edges, b .edges, room .edges);
+      versions-left = λ m. omega (arith, r .versions, more m, room .versions);
+    }
+
+    step-again : KeptStep (worked R) (worked (records.Event e ∷ R)) e (cond (makes d) 1 0)
+    unfolding changeOf
+    step-again = subst (λ (x : Decision). KeptStep (worked R) (changed (worked R) (happened (worked R) e x)) e (cond (makes d) 1 0)) (sym decided) (happened-step (worked R) e d k)
+
+    passes-again : refusalOf cap (worked R) (records.Event e) ≡ Passed
+    unfolding refusalOf
+    passes-again = event-passes cap (worked R) e _ (subst (EventTaken cap (worked R) e) (sym decided) taken-again)
+
+    item-kept : (x : Decision) → keeps x ≡ true → itemOf x e ≡ kept e
+    item-kept (Repeat j) h = absurd (let z : _≡_ {A = ℕ} 0 1 = cc in omega arith)
+    item-kept Widen h = refl
+    item-kept Renew h = refl
+
+    regrown-kept : Regrown cap F (changed T (happened T e d)) (e ∷ keptEvents hs)
+    regrown-kept = record {
+      by = ((tt, passes-again), r .by);
+      items = λ j. (ap (λ (x : Decision). itemOf x e) decided ∙ item-kept d k) j ∷ r .items j;
+      entities = step-again .entities ∙ r .entities;
+      sorts = λ x l. step-again .sorts x ∙ r .sorts x l;
+      versions = omega (arith, step-again .versions, step .versions, step .entities, r .versions);
+      edges = omega (arith, step-again .edges, step .edges, r .edges);
+      accepted = omega (arith, step-again .accepted, step .accepted, r .accepted);
+      last = omega (arith, step-again .last, step .last);
+    }
+
+  regrown-event : {hs : List Item} (T : Trail) (e : Event) (d : Decision) (cap₀ : Capacity) → Grown T hs → decisionOf T e ≡ d → EventTaken cap₀ T e d
+      → Before (changed T (happened T e d)) F → Regrown cap F T (keptEvents hs) → Regrown cap F (changed T (happened T e d)) (keptEvents (itemOf d e ∷ hs))
+  regrown-event T e (Repeat k) cap₀ g q p b r = record {
+    by = r .by;
+    items = r .items;
+    entities = r .entities;
+    sorts = r .sorts;
+    versions = r .versions;
+    edges = r .edges;
+    accepted = omega (arith, r .accepted);
+    last = omega (arith, r .last, p .later);
+  }
+  regrown-event T e Widen cap₀ g q p b r = regrown-kept T e Widen cap₀ g q refl p b r
+  regrown-event T e Renew cap₀ g q p b r = regrown-kept T e Renew cap₀ g q refl p b r
+
+  module _ (low : (x : ℕ) → x < F .counts .entities → F .entity x .sort ≤ mostSort) where
+    regrown-begun : Before fresh F → Regrown cap F fresh []
+    regrown-begun b =
+        let o = declares F cap room low (omega (arith, b .versions)) (F .counts .entities) (omega arith) in
+        record {
+          by = o .by;
+          items = o .items;
+          entities = o .entities;
+          sorts = o .sorts;
+          versions = omega (arith, o .versions);
+          edges = o .edges;
+          accepted = omega (arith, o .accepted);
+          last = omega (arith, o .last);
+        }
+
+    pub regrown : {rs : List Record} → Taken rs → Before (worked rs) F → Regrown cap F (worked rs) (keptEvents (itemsOf rs))
+    unfolding refusalOf changeOf
+    regrown begun b = regrown-begun b
+    regrown (next {rs = rs} t cap₀ u (records.Declaration d) s h) b =
+        let r = regrown t (before-declared (worked rs) F d b) in
+        record {
+          by = r .by;
+          items = r .items;
+          entities = r .entities;
+          sorts = r .sorts;
+          versions = omega (arith, r .versions);
+          edges = r .edges;
+          accepted = r .accepted;
+          last = r .last;
+        }
+    regrown (next {rs = rs} t cap₀ u (records.Event e) s h) b =
+        let T = worked rs in
+        let d = decisionOf T e in
+        regrown-event T e d cap₀ (taken-fine t .grown) refl (event-taken cap₀ T e d h) b (regrown t (before-event T F e d b))

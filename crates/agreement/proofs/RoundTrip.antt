@@ -1,0 +1,153 @@
+-- Demand 2's round trip: the kept log, taken into a fresh trail with as many rows, yields the same entities, kept events and traces.
+use Prim.Native.Nat.{ℕ, _+_, _<_}
+use native.Mathlib.Omega.{arith}
+use mathlib.Core.Path.{_≡_, refl, sym, _∙_, ap, subst}
+use mathlib.Core.Bool.{Bool, true, false, cond}
+use mathlib.Core.List.{List, reverse}
+use lib.ListN.{length, take}
+use lib.Dec.{ltb}
+use Rattle.refusals.specs.declared.Refusal.the-variants.{OutputShort}
+use Rattle.refusals.specs.declared.Checked.{Checked}
+use Rattle.refusals.specs.declared.Checked.the-variants.{Passed, Refused}
+use Rattle.refusals.specs.Refusals.{firstOf, numberOf}
+use Rattle.rows.specs.declared.Counts.{Counts}
+use Rattle.rows.specs.declared.EntityRow.{EntityRow}
+use Rattle.rows.specs.Capacity.{entityCapacity, versionCapacity, edgeCapacity}
+use Rattle.record.specs.declared.Event.{Event}
+use Rattle.record.specs.declared.Record.{Record}
+use Rattle.record.specs.Header.{headerChecks}
+use Rattle.rules.specs.declared.LogAnswer.{LogAnswer}
+use Rattle.rules.specs.Trail.{Tables, capacityOf, Trail, trailOf, freshCounts}
+use Rattle.rules.specs.Sound.{isSound}
+use Rattle.rules.specs.PlainList.{worked, itemsOf}
+use Rattle.rules.specs.History.{keptEvents}
+use Rattle.rules.specs.Batch.{unless, contentsOf, batchOf}
+use Rattle.rules.specs.Marks.{overlaid}
+use Rattle.rules.specs.KeptLog.{KeptLog, logBytes, logLength, logChecks, keptLogOf}
+use Rattle.rules.specs.Calls.{Held, held, heldAfter, Lent, plainAfter}
+use Rattle.soundness.specs.Facts.{CountFacts}
+use Rattle.soundness.proofs.Facts.{sound-counts}
+use Rattle.causality.specs.Statements.{Logged}
+use Rattle.kept_log.specs.LogRecords.{logRecords, wholly}
+use Rattle.kept_log.proofs.Same.{sort-low}
+use Rattle.kept_log.proofs.LogRecords.{length-logRecords}
+use Rattle.kept_log.proofs.ReadBack.{log-answer, log-taken-header, log-taken-contents}
+use Rattle.agreement.specs.RoundTrip.{Room, SameTrail, TakenAgain, RoundTrip}
+use Rattle.agreement.proofs.Matching.{Matches, matches, lent-alike, lent-rows, lent-sound, Ready, capacity-within}
+use Rattle.agreement.proofs.Held.{Known, known}
+use Rattle.agreement.proofs.KeptOnly.{allKept, keptEvents-allKept}
+use Rattle.agreement.proofs.Relogged.{relogged}
+use Rattle.agreement.proofs.Again.{Before, Regrown, regrown}
+use Rattle.agreement.proofs.TracesAgain.{backward-again, forward-again, intake-again}
+use Rattle.agreement.proofs.SameCalls.{same-calls}
+use Rattle.agreement.proofs.Times.{last-small}
+use Rattle.agreement.proofs.TakenAll.{batch-all, batch-answer}
+use Rattle.agreement.proofs.Log.{events-same, logRecords-reverse}
+
+-- the counts and rows that stand in tables are lent with them
+own-lent : (c : Counts) (t : Tables) → CountFacts (capacityOf t) c → Lent (held c t) t
+unfolding entityCapacity versionCapacity edgeCapacity
+own-lent c t f = record {
+  entity-room = omega (arith, f .entities-in);
+  version-room = omega (arith, f .versions-in);
+  edge-room = omega (arith, f .edges-in);
+  entity-rows = λ k l. refl;
+  version-rows = λ k l. refl;
+  edge-rows = λ k l. refl;
+}
+
+-- a writer that refuses nothing passed its checks
+abbrev short : Bool → Checked
+short b = cond b (Refused OutputShort) Passed
+
+log-passed : (c : Counts) (t : Tables) (out : List ℕ) → isSound (capacityOf t) (trailOf c t) ≡ true → keptLogOf c t out .answer .refusal ≡ 0 → firstOf (logChecks c t out) ≡ Passed
+unfolding keptLogOf logChecks firstOf
+log-passed c t out s = rw s (go (ltb (length out) (logLength c)))
+  where
+    go : (b : Bool) → unless {A = KeptLog} (short b) (record { answer = record { refusal = numberOf (short b); length = 0 }; out = out })
+        (record { answer = record { refusal = 0; length = logLength c }; out = overlaid (logBytes (trailOf c t)) out }) .answer .refusal ≡ 0
+        → short b ≡ Passed
+    go true q = absurd (omega arith)
+    go false q = refl
+
+-- Tables lent what stands in h, and a fresh trail that takes in their log
+
+module _ (h : Held) (rs : List Record) (m : Matches h rs) (t : Tables) (l : Lent h t) (lent : Tables) (room : Room (capacityOf lent) (h .counts)) where
+  abbrev T : Trail
+  T = trailOf (h .counts) t
+
+  abbrev ks : List Event
+  ks = keptEvents (itemsOf rs)
+
+  abbrev R : List Record
+  R = relogged T ks
+
+  first : Known T (worked rs .counts .entities) (itemsOf rs)
+  first = known h rs m t l
+
+  before : Before (worked rs) T
+  before =
+      let a = lent-alike h rs m t l .rows in
+      record {
+        entities = omega (arith, a .entities);
+        versions = omega (arith, a .entities, a .versions);
+        edges = omega (arith, a .edges);
+        sorts = λ x i. ap (λ (r : EntityRow). r .sort) (a .entity-rows x i);
+      }
+
+  again : Regrown (capacityOf lent) T (worked rs) ks
+  again = regrown T (capacityOf lent) (capacity-within lent) room (λ x i. sort-low _ (lent-rows h rs m t l .entity x i .sort-is)) (m .taken) before
+
+  module _ (c : Counts) (u : Tables) (y : Ready (capacityOf lent) c u R) where
+    abbrev U : Trail
+    U = trailOf c u
+
+    second : Known U (worked R .counts .entities) (allKept ks)
+    second =
+        subst (Known U (worked R .counts .entities)) (again .items)
+        (known (held c u) R (record { taken = y .taken; alike = y .alike }) u (own-lent c u (sound-counts (capacityOf u) U (y .sound))))
+
+    entities-again : U .counts .entities ≡ T .counts .entities
+    entities-again = sym (y .alike .rows .entities) ∙ again .entities
+
+    same-trail : SameTrail T U
+    same-trail =
+        let a = lent-alike h rs m t l .rows in
+        record {
+          entities = entities-again;
+          sorts = λ x i.
+              let z : x < worked R .counts .entities = omega (arith, again .entities) in
+              ap (λ (r : EntityRow). r .sort) (sym (y .alike .rows .entity-rows x z)) ∙ again .sorts x i;
+          edges = sym (y .alike .rows .edges) ∙ again .edges ∙ a .edges;
+          events = λ k i.
+              events-same T U ks (first .faithful .log) (subst (Logged U) (keptEvents-allKept ks) (second .faithful .log)) k (omega (arith, first .faithful .edges));
+          versions = omega (arith, y .alike .rows .versions, again .versions, a .entities, a .versions);
+          backward = backward-again first second entities-again;
+          forward = forward-again first second entities-again;
+          intake = intake-again first second entities-again;
+        }
+
+  -- the log, as what the writer leaves
+  module _ (file : List ℕ) (header : firstOf (headerChecks file) ≡ Passed) (contents : contentsOf file ≡ wholly (logRecords T)) where
+    turned : logRecords T ≡ reverse R
+    turned = logRecords-reverse T ks (first .faithful .edges) (first .faithful .log)
+
+    taken-again : TakenAgain (h .counts) t (batchOf freshCounts lent file)
+    taken-again =
+        let q = contents ∙ ap wholly turned in
+        let y = batch-all lent file header R (again .by) q in
+        let n : length (reverse R) ≡ T .counts .entities + T .counts .edges = ap length (sym turned) ∙ length-logRecords T in
+        record {
+          answer = batch-answer lent file header R (again .by) q ∙ (λ j. record { refusal = 0; taken = n j });
+          same = same-trail _ _ y;
+          calls = same-calls _ t _ _ (same-trail _ _ y) (lent-sound h rs m t l) (y .sound);
+        }
+
+pub round-trip : RoundTrip
+round-trip cs a b t l out q lent room =
+    let m = matches cs a in
+    let c = heldAfter cs .counts in
+    let p = log-passed c t out (lent-sound _ _ m t l) q in
+    let small : c .last < 4294967296 = omega (arith, last-small cs b, ap (λ (k : Counts). k .last) (m .alike .counts)) in
+    subst (λ (n : ℕ). TakenAgain c t (batchOf freshCounts lent (take n (keptLogOf c t out .out)))) (sym (ap (λ (x : LogAnswer). x .length) (log-answer c t out p)))
+    (taken-again (heldAfter cs) (plainAfter cs) m t l lent room (take (logLength c) (keptLogOf c t out .out)) (log-taken-header c t out p) (log-taken-contents c t out p small))

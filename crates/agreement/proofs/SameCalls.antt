@@ -1,0 +1,112 @@
+-- Sound trails with the same entities, kept events and traces: traces are refused alike and answer alike, and the kept logs are equal.
+use Prim.Native.Nat.{ℕ, _+_, _*_, _<_}
+use mathlib.Core.Path.{_≡_, refl, sym, _∙_, ap}
+use mathlib.Core.Bool.{true, not}
+use mathlib.Core.List.{List, [], _∷_, _++_}
+use lib.ListN.{length}
+use lib.Dec.{leb, ltb}
+use borrow.Author.Tests.{leb-false}
+use Rattle.refusals.specs.declared.Refusal.the-variants.{Unsound, Undeclared, BufferShort, OutputShort}
+use Rattle.refusals.specs.declared.Checked.{Checked}
+use Rattle.refusals.specs.declared.Checked.the-variants.{Passed, Refused}
+use Rattle.refusals.specs.Refusals.{check, firstOf, numberOf}
+use Rattle.refusals.proofs.Checks.{passed-all-false}
+use Rattle.rows.specs.declared.Counts.{Counts}
+use Rattle.rows.specs.Rows.{entityNo}
+use Rattle.record.specs.declared.Record.the-variants as records
+use Rattle.record.specs.Layout.{headerLength, recordLength}
+use Rattle.record.specs.Encode.{headerBytes}
+use Rattle.rules.specs.Trail.{Tables, capacityOf, trailOf, declaredSort}
+use Rattle.rules.specs.Sound.{isSound}
+use Rattle.rules.specs.Batch.{unless}
+use Rattle.rules.specs.Marks.{ones, overlaid}
+use Rattle.rules.specs.Backward.{traceChecks, BackwardTrace, backwardOf}
+use Rattle.rules.specs.Forward.{ForwardTrace, forwardOf}
+use Rattle.rules.specs.KeptLog.{declarationOf, eventOf, encodedBelow, logBytes, logLength, logChecks, keptLogOf}
+use Rattle.kept_log.proofs.Same.{encodedBelow-same}
+use Rattle.agreement.specs.RoundTrip.{SameTrail, SameCalls}
+
+-- what is read of a call that goes on or stops
+unless-same : {A B : Type 0} (f : A → B) (x : Checked) (stop on on′ : A) → (x ≡ Passed → f on ≡ f on′) → f (unless x stop on) ≡ f (unless x stop on′)
+unless-same f Passed stop on on′ h = h refl
+unless-same f (Refused r) stop on on′ h = refl
+
+module _ (c : Counts) (t : Tables) (d : Counts) (u : Tables) (s : SameTrail (trailOf c t) (trailOf d u)) (p : isSound (capacityOf t) (trailOf c t) ≡ true)
+    (q : isSound (capacityOf u) (trailOf d u) ≡ true) where
+  sound-same : isSound (capacityOf u) (trailOf d u) ≡ isSound (capacityOf t) (trailOf c t)
+  sound-same = q ∙ sym p
+
+  -- A trace
+
+  module _ (x time : ℕ) (work marks : List ℕ) where
+    checked-same : firstOf (traceChecks d u x work marks) ≡ firstOf (traceChecks c t x work marks)
+    unfolding traceChecks
+    checked-same = λ j.
+        firstOf (
+        check (not (sound-same j)) Unsound
+        ∷ check (leb (s .entities j) x) Undeclared
+        ∷ check (ltb (length work) (s .versions j)) BufferShort
+        ∷ check (ltb (length marks) (s .entities j)) BufferShort
+        ∷ []
+        )
+
+    declared : firstOf (traceChecks c t x work marks) ≡ Passed → x < c .entities
+    unfolding traceChecks
+    declared h = leb-false _ _ (passed-all-false _ h .1 .0)
+
+    backward-answer : backwardOf d u x time work marks .answer ≡ backwardOf c t x time work marks .answer
+    unfolding backwardOf
+    backward-answer =
+        rw checked-same
+        (unless-same (λ (b : BackwardTrace). b .answer) (firstOf (traceChecks c t x work marks)) _ _ _
+        (λ h. λ j. record { refusal = 0; count = ones (s .backward x time (declared h) j) }))
+
+    backward-marks : backwardOf d u x time work marks .marks ≡ backwardOf c t x time work marks .marks
+    unfolding backwardOf
+    backward-marks =
+        rw checked-same
+        (unless-same (λ (b : BackwardTrace). b .marks) (firstOf (traceChecks c t x work marks)) _ _ _ (λ h. ap (λ (m : List ℕ). overlaid m marks) (s .backward x time (declared h))))
+
+    forward-answer : forwardOf d u x time work marks .answer ≡ forwardOf c t x time work marks .answer
+    unfolding forwardOf
+    forward-answer =
+        rw checked-same
+        (unless-same (λ (b : ForwardTrace). b .answer) (firstOf (traceChecks c t x work marks)) _ _ _
+        (λ h. λ j. record { refusal = 0; count = ones (s .forward x time (declared h) j); intake = s .intake x time (declared h) j }))
+
+    forward-marks : forwardOf d u x time work marks .marks ≡ forwardOf c t x time work marks .marks
+    unfolding forwardOf
+    forward-marks =
+        rw checked-same
+        (unless-same (λ (b : ForwardTrace). b .marks) (firstOf (traceChecks c t x work marks)) _ _ _ (λ h. ap (λ (m : List ℕ). overlaid m marks) (s .forward x time (declared h))))
+
+  -- The kept log
+
+  declaration-same : (x : ℕ) → x < c .entities → declarationOf (trailOf d u) x ≡ declarationOf (trailOf c t) x
+  declaration-same x l = λ j. records.Declaration (record { sort = declaredSort (s .sorts x l j); entity = entityNo x })
+
+  logBytes-same : logBytes (trailOf d u) ≡ logBytes (trailOf c t)
+  unfolding logBytes
+  logBytes-same =
+      let a = ap (encodedBelow (declarationOf (trailOf d u))) (s .entities) ∙ encodedBelow-same _ _ (c .entities) declaration-same in
+      let b = ap (encodedBelow (eventOf (trailOf d u))) (s .edges) ∙ encodedBelow-same _ _ (c .edges) (s .events) in
+      λ j. headerBytes ++ (a j ++ b j)
+
+  length-same : logLength d ≡ logLength c
+  length-same = λ j. headerLength + recordLength * (s .entities j + s .edges j)
+
+  log-same : (out : List ℕ) → keptLogOf d u out ≡ keptLogOf c t out
+  unfolding keptLogOf logChecks
+  log-same out = λ j.
+      let x = firstOf (check (not (sound-same j)) Unsound ∷ check (ltb (length out) (length-same j)) OutputShort ∷ []) in
+      unless x (record { answer = record { refusal = numberOf x; length = 0 }; out = out })
+      (record { answer = record { refusal = 0; length = length-same j }; out = overlaid (logBytes-same j) out })
+
+  pub same-calls : SameCalls c t d u
+  same-calls = record {
+    backward-answer = backward-answer;
+    backward-marks = backward-marks;
+    forward-answer = forward-answer;
+    forward-marks = forward-marks;
+    log = log-same;
+  }

@@ -1,0 +1,65 @@
+-- Document 01, demand 2's round trip: the kept log, taken into a fresh trail with as many rows, yields the same entities,
+-- kept events and traces. "Version numbers may differ after it is taken in again; work buffers are not compared then."
+use Prim.Native.Nat.{ℕ, _+_, _≤_, _<_}
+use mathlib.Core.Path.{_≡_}
+use mathlib.Core.List.{List, [], _∷_}
+use lib.ListN.{take}
+use Rattle.rows.specs.declared.Counts.{Counts}
+use Rattle.record.specs.Layout.{Bytes}
+use Rattle.rules.specs.Trail.{Tables, Capacity, capacityOf, Trail, trailOf, freshCounts}
+use Rattle.rules.specs.Batch.{Batched, batchOf}
+use Rattle.rules.specs.Backward.{backwardEntities, backwardOf}
+use Rattle.rules.specs.Forward.{forwardEntities, forwardIntake, forwardOf}
+use Rattle.rules.specs.KeptLog.{eventOf, KeptLog, keptLogOf}
+use Rattle.rules.specs.Calls.{Call, batch, backward, forward, heldAfter, Lent, AllLent}
+
+-- the files of the batches are of bytes
+abbrev pub AllBytes : List Call → Type 0
+AllBytes [] = Unit {0}
+AllBytes (batch t file ∷ cs) = Bytes file × AllBytes cs
+AllBytes (backward t v time work marks ∷ cs) = AllBytes cs
+AllBytes (forward t u time work marks ∷ cs) = AllBytes cs
+
+-- "with as many rows" as are in use
+pub record Room (cap : Capacity) (c : Counts) : Type 0 where
+  pub entities : c .entities ≤ cap .entities
+  pub versions : c .versions ≤ cap .versions
+  pub edges : c .edges ≤ cap .edges
+
+-- "the same entities, kept events and traces": those of U are those of T
+pub record SameTrail (T U : Trail) : Type 0 where
+  pub entities : U .counts .entities ≡ T .counts .entities
+  pub sorts : (x : ℕ) → x < T .counts .entities → U .entity x .sort ≡ T .entity x .sort
+  pub edges : U .counts .edges ≡ T .counts .edges
+  pub events : (k : ℕ) → k < T .counts .edges → eventOf U k ≡ eventOf T k
+  pub versions : U .counts .versions ≡ T .counts .versions
+  pub backward : (v time : ℕ) → v < T .counts .entities → backwardEntities U v time ≡ backwardEntities T v time
+  pub forward : (u time : ℕ) → u < T .counts .entities → forwardEntities U u time ≡ forwardEntities T u time
+  pub intake : (u time : ℕ) → u < T .counts .entities → forwardIntake U u time ≡ forwardIntake T u time
+
+-- the same of the calls, whatever they are lent besides: the numbers that they return, the mark buffer, the output
+pub record SameCalls (c : Counts) (t : Tables) (d : Counts) (u : Tables) : Type 0 where
+  pub backward-answer : (v time : ℕ) (work marks : List ℕ) → backwardOf d u v time work marks .answer ≡ backwardOf c t v time work marks .answer
+  pub backward-marks : (v time : ℕ) (work marks : List ℕ) → backwardOf d u v time work marks .marks ≡ backwardOf c t v time work marks .marks
+  pub forward-answer : (x time : ℕ) (work marks : List ℕ) → forwardOf d u x time work marks .answer ≡ forwardOf c t x time work marks .answer
+  pub forward-marks : (x time : ℕ) (work marks : List ℕ) → forwardOf d u x time work marks .marks ≡ forwardOf c t x time work marks .marks
+  pub log : (out : List ℕ) → keptLogOf d u out ≡ keptLogOf c t out
+
+-- the batch takes in every record of the log, and the trail that it leaves is the same
+pub record TakenAgain (c : Counts) (t : Tables) (b : Batched) : Type 0 where
+  pub answer : b .answer ≡ record { refusal = 0; taken = c .entities + c .edges }
+  pub same : SameTrail (trailOf c t) (trailOf (b .counts) (b .tables))
+  pub calls : SameCalls c t (b .counts) (b .tables)
+
+-- the kept log, from what the writer leaves in the output
+abbrev pub writtenLog : KeptLog → List ℕ
+writtenLog k = take (k .answer .length) (k .out)
+
+-- after any list of calls, for a writer lent what they leave, with any output that is long enough, and a fresh trail in
+-- tables that hold anything
+abbrev pub RoundTrip : Type 0
+RoundTrip =
+    (cs : List Call) → AllLent cs → AllBytes cs → (t : Tables) → Lent (heldAfter cs) t → (out : List ℕ)
+    → keptLogOf (heldAfter cs .counts) t out .answer .refusal ≡ 0
+    → (lent : Tables) → Room (capacityOf lent) (heldAfter cs .counts)
+    → TakenAgain (heldAfter cs .counts) t (batchOf freshCounts lent (writtenLog (keptLogOf (heldAfter cs .counts) t out)))

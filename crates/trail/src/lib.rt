@@ -1,0 +1,80 @@
+// The public calls of the trail, with C names. The caller lends the counts, the tables and the buffers, and each call
+// leaves in them what a definition of document 01 makes of what was lent, where it refuses too.
+use rows::Counts;
+use rules::BackwardAnswer;
+use rules::BatchAnswer;
+use rules::ForwardAnswer;
+use rules::LogAnswer;
+ghost use mathlib.Core.Path.{_≡_};
+ghost use Rattle.rules.specs.Trail.{tables};
+ghost use Rattle.rules.specs.Batch.{batchOf};
+ghost use Rattle.rules.specs.Backward.{backwardOf};
+ghost use Rattle.rules.specs.Forward.{forwardOf};
+ghost use Rattle.rules.specs.KeptLog.{keptLogOf};
+ghost use Rattle.growth.specs.Turn.{left};
+ghost use Rattle.trace.specs.Answers.{backwardTrace, forwardTrace};
+ghost use Rattle.kept_log.specs.Written.{keptLog};
+
+// Takes the records of a file in, in order until the first one refused, and updates the counts where the caller keeps them.
+#[no_mangle]
+pub extern "C" fn slt_batch(
+    counts: &mut Counts,
+    entities: &mut [u32],
+    versions: &mut [u32],
+    edges: &mut [u32],
+    file: &[u8],
+) -> BatchAnswer
+    ensures { λ r. ⌜ left r (now (counts .exit)) (tables (now (entities .exit)) (now (versions .exit)) (now (edges .exit))) ≡ batchOf (now (counts .entry)) (tables (now (entities .entry)) (now (versions .entry)) (now (edges .entry))) (now (file .entry)) ⌝ }
+{
+    let b = growth::batch(*counts, entities, versions, edges, file);
+    *counts = b.counts;
+    b.answer
+}
+
+// Marks what the entity came from by the time.
+#[no_mangle]
+pub extern "C" fn slt_backward(
+    counts: Counts,
+    entities: &[u32],
+    versions: &[u32],
+    edges: &[u32],
+    entity: u32,
+    time: u32,
+    work: &mut [u8],
+    marks: &mut [u8],
+) -> BackwardAnswer
+    ensures { λ r. ⌜ backwardTrace r (now (work .exit)) (now (marks .exit)) ≡ backwardOf counts (tables (now (entities .entry)) (now (versions .entry)) (now (edges .entry))) entity time (now (work .entry)) (now (marks .entry)) ⌝ }
+{
+    trace::backward(counts, entities, versions, edges, entity, time, work, marks)
+}
+
+// Marks what the entity reached from the time on, and gives the intake.
+#[no_mangle]
+pub extern "C" fn slt_forward(
+    counts: Counts,
+    entities: &[u32],
+    versions: &[u32],
+    edges: &[u32],
+    entity: u32,
+    time: u32,
+    work: &mut [u8],
+    marks: &mut [u8],
+) -> ForwardAnswer
+    ensures { λ r. ⌜ forwardTrace r (now (work .exit)) (now (marks .exit)) ≡ forwardOf counts (tables (now (entities .entry)) (now (versions .entry)) (now (edges .entry))) entity time (now (work .entry)) (now (marks .entry)) ⌝ }
+{
+    trace::forward(counts, entities, versions, edges, entity, time, work, marks)
+}
+
+// Writes the kept log: an event file of the declarations and the kept events.
+#[no_mangle]
+pub extern "C" fn slt_kept_log(
+    counts: Counts,
+    entities: &[u32],
+    versions: &[u32],
+    edges: &[u32],
+    out: &mut [u8],
+) -> LogAnswer
+    ensures { λ r. ⌜ keptLog r (now (out .exit)) ≡ keptLogOf counts (tables (now (entities .entry)) (now (versions .entry)) (now (edges .entry))) (now (out .entry)) ⌝ }
+{
+    kept_log::write_log(counts, entities, versions, edges, out)
+}

@@ -1,0 +1,176 @@
+/*
+ * The trail: it takes event files in, answers backward and forward traces, and writes the kept log.
+ *
+ * The caller keeps everything: the counts, three tables and the buffers. A slice is passed as a pointer and a length in
+ * elements, the pointer aligned for them and valid for that many. A slice that a call writes overlaps nothing else that the
+ * call is lent, and nothing else reads or writes it until the call returns. Where the length is 0, nothing is read or written
+ * through the pointer. No call keeps a pointer, allocates memory or touches anything else, and no call fails to return.
+ *
+ * Link with libtrail.a, which asks of the C library only memset; the calls follow the C calling convention of x86-64 Linux.
+ * slt_batch needs 1.4 MB of stack, the other calls 1 kB.
+ */
+#ifndef TRAIL_H
+#define TRAIL_H
+
+#include <stddef.h>
+#include <stdint.h>
+
+#ifdef __cplusplus
+extern "C" {
+#endif
+
+/*
+ * The tables hold rows of 32-bit numbers, one row after the other, numbered from 0:
+ *
+ *   entity   sort (0 object, 1 subject), latest version
+ *   version  entity, start, end, previous version (SLT_NONE for none)
+ *   edge     from version, to version, kind (1 read, 2 write, 3 load, 4 fork, 5 execve), time
+ *
+ * A table's capacity is its whole rows, at most SLT_MOST_.. of them; numbers past that are neither read nor written. Time is
+ * in hundredths of a second since the trail began.
+ */
+#define SLT_ENTITY_WIDTH 2
+#define SLT_VERSION_WIDTH 4
+#define SLT_EDGE_WIDTH 4
+
+#define SLT_MOST_ENTITIES 4096
+#define SLT_MOST_VERSIONS 65536
+#define SLT_MOST_EDGES 262144
+#define SLT_MOST_ACCEPTED 1000000
+
+#define SLT_NONE UINT32_C(0xFFFFFFFF)
+
+/* An event file has a header of 8 bytes and records of 12. */
+#define SLT_HEADER_LENGTH 8
+#define SLT_RECORD_LENGTH 12
+
+/*
+ * How many rows of each table are in use, how many events were accepted, and the time of the last one. All five 0 is a fresh
+ * trail, whatever the tables hold. Rows past the counts mean nothing and are not written, except those that a record adds.
+ */
+typedef struct slt_counts {
+    uint32_t entities;
+    uint32_t versions;
+    uint32_t edges;
+    uint32_t accepted;
+    uint32_t last;
+} slt_counts;
+
+/* Why a call refused: the first of its conditions, in the order given with each call, that holds. */
+enum slt_refusal {
+    SLT_NOT_REFUSED = 0,
+    /* because of the input */
+    SLT_NOT_EVENT_FILE = 1,    /* under 8 bytes, or the mark "SLT" or the three zero bytes of the header differ */
+    SLT_WRONG_VERSION = 2,     /* the header's version is not 1 */
+    SLT_CUT_SHORT = 3,         /* 1 to 11 bytes remain */
+    SLT_BAD_FIELD = 4,         /* kind above 5, sort above 1, or a zero field that is not 0 */
+    SLT_UNDECLARED = 5,        /* entity not declared */
+    SLT_NOT_NEXT = 6,          /* the declared number is not the next */
+    SLT_SOURCE_IS_TARGET = 7,  /* source equals target */
+    SLT_WRONG_SORT = 8,        /* source or target of a sort that the kind does not allow */
+    SLT_NOT_LATER = 9,         /* time not above the last accepted time */
+    /* because of the state */
+    SLT_ENTITIES_FULL = 10,    /* no entity row left */
+    SLT_VERSIONS_FULL = 11,    /* no version row left where one is to be made */
+    SLT_EDGES_FULL = 12,       /* no edge row left where one is to be kept */
+    SLT_ACCEPTED_FULL = 13,    /* SLT_MOST_ACCEPTED events are accepted */
+    SLT_BUFFER_SHORT = 14,     /* work buffer shorter than the versions, or mark buffer than the entities */
+    SLT_OUTPUT_SHORT = 15,     /* output shorter than the kept log */
+    SLT_UNSOUND = 16           /* the counts and tables are not a trail */
+};
+
+/* `refusal` is one of slt_refusal in each answer. */
+
+/* How many records the batch took in. */
+typedef struct slt_batch_answer {
+    uint32_t refusal;
+    uint32_t taken;
+} slt_batch_answer;
+
+/* How many entities are marked. */
+typedef struct slt_backward_answer {
+    uint32_t refusal;
+    uint32_t count;
+} slt_backward_answer;
+
+/* How many entities are marked, and the intake. */
+typedef struct slt_forward_answer {
+    uint32_t refusal;
+    uint32_t count;
+    uint32_t intake;
+} slt_forward_answer;
+
+/* How many bytes the kept log has. */
+typedef struct slt_log_answer {
+    uint32_t refusal;
+    uint32_t length;
+} slt_log_answer;
+
+/*
+ * Takes the records of an event file in, in order until the first one refused.
+ *
+ * Refused with 16, 1, 2, then at each record with 3, 4; a declaration with 6, 10, 11; an event with 5, 7, 8, 9, 13, 12, 11.
+ * Refused with 16, 1 or 2 it takes nothing in and writes nothing. Refused at a record, it leaves the counts and the tables as
+ * the records before that one made them, and `taken` says how many they are. Not refused, it has taken all of them in.
+ *
+ * It needs 1.4 MB of stack, refused or not: 1,311,012 bytes were measured, nearly all of them the index of the edges, which is in
+ * local arrays of a fixed length. On a thread with less it ends in a fault at the guard page.
+ */
+slt_batch_answer slt_batch(
+    slt_counts *counts,
+    uint32_t *entities, size_t entities_length,
+    uint32_t *versions, size_t versions_length,
+    uint32_t *edges, size_t edges_length,
+    const uint8_t *file, size_t file_length);
+
+/*
+ * The backward trace of an entity at a time. In a trail that batches grew from a fresh one, the marked entities are those with a
+ * causal path to it by then, itself among them.
+ *
+ * Refused with 16, 5, 14; then the count is 0 and nothing is written. Not refused, `work` gets 1 or 0 for each version, marked
+ * or not, and `marks` 1 for each entity with a marked version, else 0. The count is the number of ones in `marks`. Bytes past the
+ * counts of versions and of entities are left alone.
+ */
+slt_backward_answer slt_backward(
+    slt_counts counts,
+    const uint32_t *entities, size_t entities_length,
+    const uint32_t *versions, size_t versions_length,
+    const uint32_t *edges, size_t edges_length,
+    uint32_t entity, uint32_t time,
+    uint8_t *work, size_t work_length,
+    uint8_t *marks, size_t marks_length);
+
+/*
+ * The forward trace of an entity at a time. The intake is the greatest time, at or before the given one, of an edge that enters
+ * the entity's start version, else that version's start. In a trail that batches grew from a fresh one, it is the time of the
+ * entity's latest kept intake, 0 if there is none, and the marked entities are those reached by the events after that.
+ *
+ * Refusals and buffers as for slt_backward; refused, the intake is 0 too.
+ */
+slt_forward_answer slt_forward(
+    slt_counts counts,
+    const uint32_t *entities, size_t entities_length,
+    const uint32_t *versions, size_t versions_length,
+    const uint32_t *edges, size_t edges_length,
+    uint32_t entity, uint32_t time,
+    uint8_t *work, size_t work_length,
+    uint8_t *marks, size_t marks_length);
+
+/*
+ * Writes the kept log to the start of `out`: an event file with the header, all declarations by number, then all edges in
+ * order as events. It has SLT_HEADER_LENGTH + SLT_RECORD_LENGTH * (entities + edges) bytes, which is the length returned.
+ *
+ * Refused with 16, 15; then the length is 0 and nothing is written. Bytes after the log are left alone.
+ */
+slt_log_answer slt_kept_log(
+    slt_counts counts,
+    const uint32_t *entities, size_t entities_length,
+    const uint32_t *versions, size_t versions_length,
+    const uint32_t *edges, size_t edges_length,
+    uint8_t *out, size_t out_length);
+
+#ifdef __cplusplus
+}
+#endif
+
+#endif

@@ -1,0 +1,120 @@
+//! What the benchmark prints.
+
+use crate::growth::{Growth, BASE};
+use crate::line::{Goal, Line};
+
+/// The paper's events a second.
+const PAPER: f64 = 860_000.0;
+
+const HEADING: &str = "\
+Ratios of medians of 9 runs, all from this one run on this machine, in time
+that the thread itself ran; both sides are built for release. Below 1.00 the
+library is faster.
+
+library  is lent the tables at each call: it tests them (refusal 16), a batch
+         then builds its index of edges, a trace makes its passes.
+(a)      keeps rows, a hash set of ways and lists of edges of its own from call
+         to call; it trusts them, tests nothing and rebuilds nothing. Where it
+         is made anew it takes over the lent tables at each batch, untested.
+(b)      batch: one pass that decodes the file, and on a trail with rows one
+         pass that reads the tables; trace and kept log: one pass that reads
+         the tables. Each number is read once and added up.
+
+Buffers: those of both sides are allocated, and written by a round that does
+not count, before any time is taken. Each run starts from counts put back to
+what they were (the peer cleared, its memory kept). Sides run in turn.
+";
+
+pub fn print_heading() {
+    println!("{HEADING}");
+    let titles = ("library/(a)", "library/(b)", "events/s");
+    println!("{:<70}{:>12}{:>12}{:>13}", "", titles.0, titles.1, titles.2);
+}
+
+pub fn print_line(line: &Line) {
+    let to_peer = line.to_peer().map_or("-".to_string(), ratio);
+    let events = line.events_a_second().map_or("-".to_string(), thousands);
+    let to_floor = ratio(line.to_floor());
+    println!("{:<70}{to_peer:>12}{to_floor:>12}{events:>13}", line.name);
+}
+
+fn ratio(ratio: f64) -> String {
+    if ratio < 100.0 {
+        format!("{ratio:.2}")
+    } else {
+        format!("{ratio:.0}")
+    }
+}
+
+/// A number in groups of three digits.
+fn thousands(number: f64) -> String {
+    let digits = format!("{number:.0}");
+    let mut text = String::new();
+    for (place, digit) in digits.chars().enumerate() {
+        if place > 0 && (digits.len() - place) % 3 == 0 {
+            text.push(',');
+        }
+        text.push(digit);
+    }
+    text
+}
+
+pub fn print_growth(growth: &Growth) {
+    println!("\nThe worst tables take as many passes as they have versions, up to 65,536.");
+    println!("\nCost of an event in a file with few repeats, to the cost at {BASE} edges");
+    let titles = ("edges", "library", "(a)", "library/(a)", "library/(b)");
+    println!(
+        "{:>9}{:>12}{:>12}{:>14}{:>14}",
+        titles.0, titles.1, titles.2, titles.3, titles.4
+    );
+    for (edges, line) in &growth.lines {
+        let own = ratio(growth.ratio(line));
+        let peer = ratio(growth.peer_ratio(line));
+        let to_peer = line.to_peer().map_or("-".to_string(), ratio);
+        let to_floor = ratio(line.to_floor());
+        println!("{edges:>9}{own:>12}{peer:>12}{to_peer:>14}{to_floor:>14}");
+    }
+}
+
+pub fn print_goals(lines: &[Line], growth: &Growth) {
+    println!("\nGoals");
+    for line in of_goal(lines, &[Goal::Batch, Goal::RepeatBatch]) {
+        let value = line.to_peer().unwrap_or(0.0);
+        print_goal(&format!("no slower than (a), {}", line.name), value, 1.0);
+    }
+    for line in of_goal(lines, &[Goal::RepeatBatch]) {
+        let events = line.events_a_second().unwrap_or(0.0);
+        print_goal(
+            "the paper's 860,000 events/s, to those here",
+            PAPER / events,
+            1.0,
+        );
+    }
+    let name = "cost of an event at 262,144 edges to that at 4,096";
+    print_goal(name, growth.largest(), 1.5);
+    print_reads(lines, "the plain read (b)", 1.0);
+    for line in of_goal(lines, &[Goal::RowRead]) {
+        print_reads(lines, "the read a row at a time", line.to_floor());
+    }
+}
+
+/// The goals set by a read of the tables; the read takes so much of (b).
+fn print_reads(lines: &[Line], read: &str, cost: f64) {
+    for (goal, most) in [(Goal::Trace, 4.0), (Goal::SoundnessTest, 3.0)] {
+        for line in of_goal(lines, &[goal]) {
+            let name = format!("to {read}, {}", line.name);
+            print_goal(&name, line.to_floor() / cost, most);
+        }
+    }
+}
+
+/// The lines that count for one of the goals.
+fn of_goal<'a>(lines: &'a [Line], goals: &'a [Goal]) -> impl Iterator<Item = &'a Line> {
+    lines.iter().filter(|line| goals.contains(&line.goal))
+}
+
+fn print_goal(name: &str, value: f64, most: f64) {
+    let verdict = if value <= most { "met" } else { "not met" };
+    let value = ratio(value);
+    println!("{verdict:>8}  {value:>8} (at most {most:.1})  {name}");
+}

@@ -1,0 +1,204 @@
+//! Traces, the kept log and the test of lent tables.
+
+use crate::batches::FullTrail;
+use crate::floor::{follow_edges, read_rows, read_tables};
+use crate::library;
+use crate::line::{Goal, Line};
+use crate::measure::{medians, repeated};
+use reference::peer::Trail;
+use reference::Tables;
+
+/// A trace to be timed.
+#[derive(Clone, Copy, Debug)]
+pub struct Trace {
+    pub is_backward: bool,
+    pub entity: u32,
+    pub time: u32,
+}
+
+/// A work buffer and a mark buffer.
+struct Buffers {
+    work: Vec<u8>,
+    marks: Vec<u8>,
+}
+
+impl Buffers {
+    fn of(tables: &Tables) -> Buffers {
+        Buffers {
+            work: vec![7; tables.counts.versions as usize],
+            marks: vec![7; tables.counts.entities as usize],
+        }
+    }
+}
+
+impl Trace {
+    fn direction(self) -> &'static str {
+        match self.is_backward {
+            true => "backward",
+            false => "forward",
+        }
+    }
+
+    /// The library's refusal, count and intake.
+    fn on_library(self, tables: &Tables, buffers: &mut Buffers) -> [u32; 3] {
+        let Buffers { work, marks } = buffers;
+        if self.is_backward {
+            let answer = library::backward(tables, self.entity, self.time, work, marks);
+            [answer.refusal, answer.count, 0]
+        } else {
+            let answer = library::forward(tables, self.entity, self.time, work, marks);
+            [answer.refusal, answer.count, answer.intake]
+        }
+    }
+
+    /// The peer's refusal, count and intake.
+    fn on_peer(self, peer: &Trail, buffers: &mut Buffers) -> [u32; 3] {
+        let Buffers { work, marks } = buffers;
+        if self.is_backward {
+            let answer = peer.backward(self.entity, self.time, work, marks);
+            [answer.refusal, answer.count, 0]
+        } else {
+            let answer = peer.forward(self.entity, self.time, work, marks);
+            [answer.refusal, answer.count, answer.intake]
+        }
+    }
+
+    /// Times the trace on both sides.
+    pub fn line(self, name: &str, goal: Goal, tables: &Tables, peer: &Trail) -> Line {
+        let (mut of_library, mut of_peer) = (Buffers::of(tables), Buffers::of(tables));
+        let answer = self.on_library(tables, &mut of_library);
+        assert_eq!(answer, self.on_peer(peer, &mut of_peer));
+        assert!(of_library.work == of_peer.work && of_library.marks == of_peer.marks);
+        let [library, peer, floor] = medians([
+            Box::new(|| repeated(|| self.on_library(tables, &mut of_library))),
+            Box::new(|| repeated(|| self.on_peer(peer, &mut of_peer))),
+            Box::new(|| repeated(|| read_tables(tables))),
+        ]);
+        let (direction, count) = (self.direction(), answer[1]);
+        Line {
+            name: format!("{name}: {direction}, {count} entities marked"),
+            goal,
+            library,
+            peer: Some(peer),
+            floor,
+            events: None,
+        }
+    }
+}
+
+impl FullTrail {
+    /// Each direction, with the smallest answer of two entities or more and
+    /// with the largest.
+    pub fn traces(&self) -> Vec<Line> {
+        let mut lines = Vec::new();
+        for is_backward in [true, false] {
+            let (small, large) = self.small_and_large(is_backward);
+            for trace in [small, large] {
+                lines.push(trace.line("full trail", Goal::Trace, &self.tables, &self.peer));
+            }
+        }
+        lines
+    }
+
+    fn small_and_large(&self, is_backward: bool) -> (Trace, Trace) {
+        let counts = self.tables.counts;
+        let mut buffers = Buffers::of(&self.tables);
+        let entities = (0..counts.entities).step_by(64);
+        let times = [0, 1, 4, 8].map(|part| counts.last / 8 * part);
+        let trace = |entity| {
+            times.map(|time| Trace {
+                is_backward,
+                entity,
+                time,
+            })
+        };
+        let mut by_count: Vec<(u32, Trace)> = entities
+            .flat_map(trace)
+            .map(|trace| (trace.on_peer(&self.peer, &mut buffers)[1], trace))
+            .filter(|(count, _)| *count > 1)
+            .collect();
+        by_count.sort_by_key(|(count, _)| *count);
+        (by_count[0].1, by_count[by_count.len() - 1].1)
+    }
+
+    /// The kept log, written and refused, a refused trace, and beside them
+    /// other reads of the tables.
+    pub fn other_calls(&self) -> Vec<Line> {
+        let records = self.tables.counts.entities + self.tables.counts.edges;
+        let length = 8 + 12 * records as usize;
+        vec![
+            self.kept_log("full trail: kept log", Goal::None, length, 0),
+            self.kept_log(
+                "refusal 16's test: kept log, refused 15",
+                Goal::SoundnessTest,
+                0,
+                15,
+            ),
+            self.undeclared("refusal 16's test: backward, refused 5"),
+            self.other_read("no call: read a row at a time", Goal::RowRead, read_rows),
+            self.other_read(
+                "no call: read that follows each edge to its versions",
+                Goal::None,
+                follow_edges,
+            ),
+        ]
+    }
+
+    fn kept_log(&self, name: &str, goal: Goal, length: usize, refusal: u32) -> Line {
+        let (mut out, mut of_peer) = (vec![7; length], vec![7; length]);
+        let answer = library::kept_log(&self.tables, &mut out);
+        assert_eq!(answer, self.peer.kept_log(&mut of_peer));
+        assert!(answer.refusal == refusal && out == of_peer);
+        let [library, peer, floor] = medians([
+            Box::new(|| repeated(|| library::kept_log(&self.tables, &mut out))),
+            Box::new(|| repeated(|| self.peer.kept_log(&mut of_peer))),
+            Box::new(|| repeated(|| read_tables(&self.tables))),
+        ]);
+        Line {
+            name: name.to_string(),
+            goal,
+            library,
+            peer: (refusal == 0).then_some(peer),
+            floor,
+            events: None,
+        }
+    }
+
+    /// Another read of the tables, in the library's place.
+    fn other_read(&self, name: &str, goal: Goal, read: fn(&Tables) -> u32) -> Line {
+        let [other, floor] = medians([
+            Box::new(|| repeated(|| read(&self.tables))),
+            Box::new(|| repeated(|| read_tables(&self.tables))),
+        ]);
+        Line {
+            name: name.to_string(),
+            goal,
+            library: other,
+            peer: None,
+            floor,
+            events: None,
+        }
+    }
+
+    fn undeclared(&self, name: &str) -> Line {
+        let mut buffers = Buffers::of(&self.tables);
+        let trace = Trace {
+            is_backward: true,
+            entity: self.tables.counts.entities,
+            time: 0,
+        };
+        assert_eq!(trace.on_library(&self.tables, &mut buffers), [5, 0, 0]);
+        let [library, floor] = medians([
+            Box::new(|| repeated(|| trace.on_library(&self.tables, &mut buffers))),
+            Box::new(|| repeated(|| read_tables(&self.tables))),
+        ]);
+        Line {
+            name: name.to_string(),
+            goal: Goal::SoundnessTest,
+            library,
+            peer: None,
+            floor,
+            events: None,
+        }
+    }
+}
