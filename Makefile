@@ -1,8 +1,13 @@
-# example: the main job on an example.  test: every proof from nothing, and every test.
-.PHONY: example test
+# example: lists the worked trail.  test: every proof from nothing, and every test.  bench: ratios to its peers.
+.PHONY: example test bench
 
 example:
-	rt check rules
+	rt check listing
+	target/bin/listing < examples/worked.slt
 
 test:
 	@tools/test
+
+bench:
+	rt staticlib trail
+	cd reference && cargo run --release --offline --features archive --bin bench

@@ -29,6 +29,7 @@ pub mod generate;
 pub mod kept_log;
 pub mod listing;
 pub mod long_batch;
+pub mod peer;
 pub mod random;
 pub mod record;
 pub mod refusal;

@@ -3,7 +3,7 @@ use Prim.Native.Nat.{ℕ}
 use native.Mathlib.Omega.{arith}
 use mathlib.Core.Path.{_≡_, refl, sym, _∙_, ap}
 use mathlib.Core.Logic.{_⊎_, inl, inr}
-use mathlib.Core.Bool.{Bool, true, false, _&&_, _||_, not, cond}
+use mathlib.Core.Bool.{Bool, true, false, _&&_, _||_, not, cond, or-false, or-assoc}
 use mathlib.Core.List.{List, [], _∷_, _++_, List·Memᴰ, List·Memᴰ·cases-cons, List·Memᴰ·not-nil}
 use lib.ListN.{getD, set}
 use lib.Dec.{eqb}
@@ -14,17 +14,9 @@ use Rattle.closure.proofs.Passes.{keeps-pass, keeps-passes}
 use Rattle.trace.specs.Followed.{fires, changes, Followed}
 use Rattle.trace.specs.TraceArcs.{when}
 
-or-false : (a b : Bool) → (a || b) ≡ false → (a ≡ false) × (b ≡ false)
-or-false true b h = absurd (let z : _≡_ {A = ℕ} 0 1 = cc in omega arith)
-or-false false b h = (refl, h)
-
-pub or-none : (b : Bool) → b ≡ b || false
-or-none true = refl
-or-none false = refl
-
-pub or-assoc : (a b c : Bool) → ((a || b) || c) ≡ (a || (b || c))
-or-assoc true b c = refl
-or-assoc false b c = refl
+or-none : (a b : Bool) → (a || b) ≡ false → (a ≡ false) × (b ≡ false)
+or-none true b h = absurd (let z : _≡_ {A = ℕ} 0 1 = cc in omega arith)
+or-none false b h = (refl, h)
 
 -- an arc that adds no mark changes nothing
 follow-still : (a : Arc) (m : List ℕ) → fires a m ≡ false → follow a m ≡ m
@@ -40,7 +32,7 @@ follow-still a m h = go (eqb (getD m (a .from) 0) 1) (eqb (getD m (a .to) 0) 1) 
 module _ (m : List ℕ) (f t : ℕ) where
   arc-fires : (c : Bool) (m′ : List ℕ) → c ≡ fires (arc f t) m → m′ ≡ follow (arc f t) m → Followed (arc f t ∷ []) m c m′
   unfolding changes pass
-  arc-fires c m′ q r = record { changed = q ∙ or-none (fires (arc f t) m); marks = r }
+  arc-fires c m′ q r = record { changed = q ∙ sym (or-false (fires (arc f t) m)); marks = r }
 
   arc-still : fires (arc f t) m ≡ false → Followed (arc f t ∷ []) m false m
   arc-still h = arc-fires false m (sym h) (sym (follow-still (arc f t) m h))
@@ -95,7 +87,7 @@ module _ (arcs : List Arc) (m : List ℕ) (h : changes arcs m ≡ false) where
   unfired : (xs : List Arc) → changes xs m ≡ false → (a : Arc) → List·Memᴰ a xs → follow a m ≡ m
   unfolding changes
   unfired [] z a k = absurd (List·Memᴰ·not-nil k)
-  unfired (x ∷ xs) z a k = go (or-false (fires x m) (changes xs (follow x m)) z) (List·Memᴰ·cases-cons k) (λ y k′. unfired xs y a k′)
+  unfired (x ∷ xs) z a k = go (or-none (fires x m) (changes xs (follow x m)) z) (List·Memᴰ·cases-cons k) (λ y k′. unfired xs y a k′)
     where
       go : (fires x m ≡ false) × (changes xs (follow x m) ≡ false) → (a ≡ x) ⊎ List·Memᴰ a xs → (changes xs m ≡ false → List·Memᴰ a xs → follow a m ≡ m) → follow a m ≡ m
       go (p, q) (inl e) r = rw e (follow-still x m p)

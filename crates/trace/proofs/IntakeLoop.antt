@@ -13,11 +13,12 @@ use Rattle.rows.specs.declared.EdgeRow.{EdgeRow}
 use Rattle.rules.specs.declared.Found.{Found}
 use Rattle.rules.specs.declared.Found.the-variants.{At, Nothing}
 use Rattle.rules.specs.Trail.{Trail}
+use Rattle.rules.specs.Decide.{edgeNo}
 use Rattle.rules.specs.Start.{intakeOf}
 use Rattle.soundness.specs.Facts.{RowFacts}
 use Rattle.closure.specs.Intake.{Enters}
 use Rattle.closure.proofs.Intake.{intake-start, intake-last}
-use Rattle.trace.specs.Intake.{edgeNo, entersBy, lastInto, timeOr, lastIntake}
+use Rattle.trace.specs.Intake.{entersBy, lastInto, timeOr, lastIntake}
 
 -- one edge, by what was read of it
 module _ (e : EdgeRow) (s t : ℕ) (to : VersionNo) (q : to ≡ e .to) where

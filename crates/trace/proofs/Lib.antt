@@ -1,6 +1,5 @@
 -- the buffers
-pub mod Marked
-pub mod Cleared
+pub mod Bytes
 -- passes over arcs, as code makes them
 pub mod Followed
 pub mod Loops

@@ -3,12 +3,12 @@ use Prim.Native.Nat.{ℕ, suc, _+_, _-_, _≤_, _<_}
 use native.Mathlib.Numerals.{add-one}
 use native.Mathlib.Omega.{arith}
 use mathlib.Core.Path.{_≡_, refl, sym, _∙_, ap, subst}
-use mathlib.Core.Bool.{Bool, false, _||_}
+use mathlib.Core.Bool.{Bool, false, _||_, or-false, or-assoc}
 use mathlib.Core.List.{List}
 use lib.ListN.{set}
 use Rattle.rules.specs.Marks.{Arc, pass, passes}
 use Rattle.trace.specs.Followed.{changes, Followed, down, up}
-use Rattle.trace.proofs.Followed.{or-none, or-assoc, followed-none, pass-append, changes-append, followed-append, pass-still, passes-still}
+use Rattle.trace.proofs.Followed.{followed-none, pass-append, changes-append, followed-append, pass-still, passes-still}
 
 below : (k : ℕ) → 0 < k → k ≡ suc (k - 1)
 below k l = omega arith
@@ -44,7 +44,7 @@ module _ (A : ℕ → List Arc) (n : ℕ) (m₀ : List ℕ) (k : ℕ) (c : Bool)
   descends-end l =
       let z : k ≡ 0 = omega arith in
       let i′ : Descends A n m₀ 0 c m = subst (λ x. Descends A n m₀ x c m) z i in
-      record { changed = or-none c ∙ ap (λ b. c || b) (followed-none m .changed) ∙ i′ .changed; marks = followed-none m .marks ∙ i′ .marks }
+      record { changed = sym (or-false c) ∙ ap (λ b. c || b) (followed-none m .changed) ∙ i′ .changed; marks = followed-none m .marks ∙ i′ .marks }
 
 -- from the lowest number up: the first k are followed
 pub ascends-start : (A : ℕ → List Arc) (m : List ℕ) → Followed (up A 0) m false m

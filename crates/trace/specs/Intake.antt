@@ -2,14 +2,11 @@
 use Prim.Native.Nat.{ℕ, zero, suc}
 use mathlib.Core.Bool.{Bool, _&&_, cond}
 use lib.Dec.{eqb, leb}
-use Rattle.rows.specs.declared.EdgeNo.{EdgeNo}
 use Rattle.rows.specs.declared.VersionRow.{VersionRow}
 use Rattle.rows.specs.declared.EdgeRow.{EdgeRow}
 use Rattle.rules.specs.declared.Found.{Found}
 use Rattle.rules.specs.declared.Found.the-variants.{At, Nothing}
-
-abbrev pub edgeNo : ℕ → EdgeNo
-edgeNo k = record { 0 = k }
+use Rattle.rules.specs.Decide.{edgeNo}
 
 -- an edge of row e enters version s with time ≤ t
 unfoldable pub entersBy : ℕ → ℕ → EdgeRow → Bool

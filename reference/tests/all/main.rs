@@ -10,6 +10,7 @@ mod kept_log;
 mod listing;
 mod lists_of_calls;
 mod long_batch;
+mod peer;
 mod records;
 mod refusals;
 mod soundness;

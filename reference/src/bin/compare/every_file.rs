@@ -10,7 +10,7 @@ use reference::{TableLengths, Tables};
 /// Records of a file, all but the last taken in.
 const RECORDS: usize = 4;
 /// Events of a file after its declarations.
-const EVENTS: u32 = 4;
+const EVENTS: u32 = 5;
 
 /// Every file of up to four records over three entities and times 0 to 3, of
 /// which all but the last record are taken in; all traces of those taken in
@@ -75,7 +75,7 @@ fn every_record() -> Vec<[u8; RECORD_BYTES]> {
     records
 }
 
-/// All lists of four events between three entities, with all traces.
+/// All lists of five events between three entities, with all traces.
 pub fn every_event_list(comparison: &mut Comparison, random: &mut Random) -> Compared {
     let (object, subject) = (Sort::Object, Sort::Subject);
     for sorts in [
@@ -131,7 +131,7 @@ fn compare_events(
         0 => random.below(records.len()),
         _ => records.len(),
     };
-    let mut trail = fresh(random, TableLengths::of_rows(3, 7, 4));
+    let mut trail = fresh(random, TableLengths::of_rows(3, 8, 5));
     for part in [&records[..first], &records[first..]] {
         if !part.is_empty() {
             let file = FileBuilder::new().records(part).bytes();

@@ -27,7 +27,7 @@ use std::process::ExitCode;
 use std::thread;
 
 const DEFAULT_SEED: u64 = 1;
-const DEFAULT_ROUNDS: u64 = 16;
+const DEFAULT_ROUNDS: u64 = 64;
 /// A batch of the archive takes more than a megabyte of stack.
 const STACK_BYTES: usize = 64 << 20;
 

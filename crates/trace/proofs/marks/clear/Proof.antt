@@ -5,7 +5,7 @@ use mathlib.Core.List.{_++_}
 use mathlib.Core.Path.{_≡_, refl}
 use lib.ListN.{length, drop, replicate}
 use borrow.Author.Needs.{needs}
-use Rattle.trace.proofs.Cleared.{cleared-next, cleared-end}
+use Rattle.trace.proofs.Bytes.{cleared-next, cleared-end}
 use Rattle.trace.proofs.marks.clear.Statement.{statement}
 use Rattle.trace.proofs.marks.clear.Tie as tie
 

@@ -1,6 +1,6 @@
 -- `trace::marks::marked` meets its contract. The test is made on the byte that was read.
 use borrow.Author.Needs.{needs}
-use Rattle.trace.proofs.Marked.{marked-byte}
+use Rattle.trace.proofs.Bytes.{marked-byte}
 use Rattle.trace.proofs.marks.marked.Statement.{statement}
 use Rattle.trace.proofs.marks.marked.Tie as tie
 

@@ -1,4 +1,4 @@
--- The loop that takes marks away.
+-- Bytes of a buffer: the test of one mark, and the loop that takes marks away.
 use Prim.Native.Nat.{ℕ, zero, suc, _+_, _≤_, _<_}
 use native.Mathlib.Numerals.{add-one}
 use native.Mathlib.Omega.{arith}
@@ -6,6 +6,10 @@ use mathlib.Core.Path.{_≡_, refl, sym, _∙_, ap}
 use mathlib.Core.List.{List, _∷_, _++_}
 use lib.ListN.{length, getD, set, drop, replicate, length-replicate}
 use lib.Seq.{drop-cons, set-at}
+use lib.Dec.{eqb}
+
+pub marked-byte : (r a : ℕ) → r ≡ a → eqb r 1 ≡ eqb a 1
+marked-byte r a p = rw p
 
 zeros-cons : (i : ℕ) (ys : List ℕ) → replicate i 0 ++ 0 ∷ ys ≡ 0 ∷ (replicate i 0 ++ ys)
 zeros-cons zero ys = refl
