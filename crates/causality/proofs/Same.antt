@@ -1,36 +1,17 @@
 -- Growth reads only the rows in use: a trail with the same rows in use has grown as well.
 use Prim.Native.Nat.{ℕ, _≤_, _<_}
 use native.Mathlib.Omega.{arith}
-use mathlib.Core.Path.{_≡_, refl, sym, _∙_, ap, subst}
+use mathlib.Core.Path.{sym, _∙_, subst}
 use mathlib.Core.Logic.{_⊎_, inl, inr}
 use mathlib.Core.List.{List}
 use Rattle.record.specs.declared.Event.{Event}
 use Rattle.rules.specs.Trail.{Trail}
 use Rattle.rules.specs.History.{Item}
-use Rattle.causality.specs.Working.{ne, nv, nd, Leads, bare, Keeps, Same, Declares, Wide, New, Enters, Fit, Grown, begun, declared, repeated, entered}
+use Rattle.causality.specs.Working.{ne, nv, nd, Leads, Keeps, Same, Declares, Wide, New, Enters, Fit, Grown, begun, declared, repeated, entered}
 use Rattle.causality.proofs.Declared.{edge-stands, prev-stands}
 use Rattle.causality.proofs.Entered.{nv-grows}
 use Rattle.causality.proofs.Growth.{inv}
 use Rattle.causality.proofs.ForwardMarks.{fwd-more, fwd-in}
-
-keeps-refl : (T T′ : Trail) → T .version ≡ T′ .version → T .edge ≡ T′ .edge → Keeps T T′
-keeps-refl T T′ p q =
-    record {
-      owner-old = λ a _. ap (λ v. v a .entity .0) (sym p);
-      start-old = λ a _. ap (λ v. v a .start) (sym p);
-      previous-old = λ a _. ap (λ v. v a .previous .0) (sym p);
-      from-old = λ k _. ap (λ e. e k .from .0) (sym q);
-      to-old = λ k _. ap (λ e. e k .to .0) (sym q);
-      kind-old = λ k _. ap (λ e. e k .kind) (sym q);
-      time-old = λ k _. ap (λ e. e k .time) (sym q);
-    }
-
--- without the number of accepted events and the last time
-pub same-bare : (T : Trail) → Same T (bare T)
-same-bare T = record { ne-is = refl; nv-is = refl; nd-is = refl; latest-old = λ y _. refl; old = keeps-refl T (bare T) refl refl }
-
-pub bare-same : (T : Trail) → Same (bare T) T
-bare-same T = record { ne-is = refl; nv-is = refl; nd-is = refl; latest-old = λ y _. refl; old = keeps-refl (bare T) T refl refl }
 
 keeps-trans : {T U R : Trail} → nv T ≤ nv U → nd T ≤ nd U → Keeps T U → Keeps U R → Keeps T R
 keeps-trans m n p q =

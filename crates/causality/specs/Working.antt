@@ -5,7 +5,7 @@ use mathlib.Core.Logic.{_⊎_}
 use mathlib.Core.List.{List, [], _∷_}
 use Rattle.record.specs.declared.Event.{Event}
 use Rattle.record.specs.Layout.{kindNo}
-use Rattle.rules.specs.Trail.{Trail, counts, none, latestOf, ownerOf}
+use Rattle.rules.specs.Trail.{Trail, none, latestOf, ownerOf}
 use Rattle.rules.specs.Forward.{ForwardMarks}
 use Rattle.rules.specs.History.{Item, kept, dropped}
 
@@ -55,10 +55,6 @@ Leads T s v = Marked T (ForwardMarks T s) v
 -- no edge leaves version w
 abbrev pub Unused : Trail → ℕ → Type 0
 Unused T w = (b t : ℕ) → EdgeIn T w b t → ⊥
-
--- the trail without the number of accepted events and the last time, which no trace reads
-abbrev pub bare : Trail → Trail
-bare T = record { counts = counts (ne T) (nv T) (nd T) 0 0; entity = T .entity; version = T .version; edge = T .edge }
 
 -- What a record does to it
 

@@ -44,14 +44,3 @@ module _ {A : Type 0} (p : ℕ → Bool) (g : ℕ → A) where
 
   pub collected-iff : (n : ℕ) (a : A) → List·Memᴰ a (collected p g n) ↔ ((k : ℕ) × (k < n) × (p k ≡ true) × (a ≡ g k))
   collected-iff n a = (mem-collected n a, λ z. collected-mem n (z .0) a (z .1) (z .2) (z .3))
-
-pub collected-same : {A : Type 0} (p p′ : ℕ → Bool) (g g′ : ℕ → A) (n : ℕ) → ((k : ℕ) → k < n → p k ≡ p′ k) → ((k : ℕ) → k < n → g k ≡ g′ k)
-    → collected p g n ≡ collected p′ g′ n
-unfolding collected
-collected-same p p′ g g′ zero hp hg = refl
-collected-same p p′ g g′ (suc n) hp hg =
-    go (p′ n) (hp n (omega arith)) (hg n (omega arith)) (collected-same p p′ g g′ n (λ k l. hp k (omega arith)) (λ k l. hg k (omega arith)))
-  where
-    go : (b : Bool) → p n ≡ b → g n ≡ g′ n → collected p g n ≡ collected p′ g′ n
-        → cond (p n) (g n ∷ collected p g n) (collected p g n) ≡ cond b (g′ n ∷ collected p′ g′ n) (collected p′ g′ n)
-    go b q r e = λ i. cond (q i) (r i ∷ e i) (e i)

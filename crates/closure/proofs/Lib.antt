@@ -17,4 +17,3 @@ pub mod Ones
 pub mod Traces
 -- trails with the same rows in use
 pub mod SameFacts
-pub mod SameTraces

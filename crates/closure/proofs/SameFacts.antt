@@ -11,16 +11,6 @@ use Rattle.rules.specs.Sound.{isObject, isSubject, sourceFits, targetFits}
 use Rattle.soundness.specs.Facts.{EntityFacts, VersionFacts, EdgeFacts, RowFacts}
 use Rattle.closure.specs.Same.{SameRows}
 
-pub sameRows-sym : {T T′ : Trail} → SameRows T T′ → SameRows T′ T
-sameRows-sym s = record {
-  entities = sym (s .entities);
-  versions = sym (s .versions);
-  edges = sym (s .edges);
-  entity-rows = λ k l. sym (s .entity-rows k (omega (arith, s .entities)));
-  version-rows = λ k l. sym (s .version-rows k (omega (arith, s .versions)));
-  edge-rows = λ k l. sym (s .edge-rows k (omega (arith, s .edges)));
-}
-
 module _ {T T′ : Trail} (s : SameRows T T′) where
   -- the entity of a version that a number names
   same-owner : (k k′ : ℕ) → k < T .counts .versions → k ≡ k′ → ownerOf T k ≡ ownerOf T′ k′

@@ -4,7 +4,7 @@ use native.Mathlib.Omega.{arith}
 use mathlib.Core.Path.{_≡_, refl, _∙_}
 use mathlib.Core.Bool.{Bool, true, false, cond}
 use lib.Dec.{leb}
-use borrow.Author.Tests.{leb-true, leb-false, le-leb, lt-leb}
+use borrow.Author.Tests.{leb-true, leb-false, le-leb}
 use Rattle.rules.specs.Trail.{Trail, none, latestOf, ownerOf}
 use Rattle.rules.specs.Start.{startFrom, startOf}
 use Rattle.soundness.specs.Facts.{RowFacts}
@@ -15,10 +15,6 @@ unfolding startFrom
 startFrom-stop T t zero w h = refl
 startFrom-stop T t (suc n) w h = rw (le-leb _ _ h)
 
-startFrom-suc : (T : Trail) (t n w : ℕ) → t < T .version w .start → startFrom (T .version) t (suc n) w ≡ startFrom (T .version) t n (T .version w .previous .0)
-unfolding startFrom
-startFrom-suc T t n w h = rw (lt-leb _ _ h)
-
 module _ (T : Trail) (f : RowFacts T) where
   -- a version that starts after t has a previous one
   pub previous-lower : (t w : ℕ) → w < T .counts .versions → t < T .version w .start → T .version w .previous .0 < w
@@ -27,29 +23,6 @@ module _ (T : Trail) (f : RowFacts T) where
   -- so has each whose previous is not none
   pub previous-before : (w : ℕ) → w < T .counts .versions → (T .version w .previous .0 ≡ none → ⊥) → T .version w .previous .0 < w
   previous-before w l d = f .version w l .previous-in (λ z. d (f .version w l .first z))
-
-  -- more steps than the version's number change nothing
-  pub startFrom-fuel : (t n m w : ℕ) → w < n → w < m → w < T .counts .versions → startFrom (T .version) t n w ≡ startFrom (T .version) t m w
-  unfolding startFrom
-  startFrom-fuel t zero m w a b l = absurd (omega arith)
-  startFrom-fuel t (suc n) m w a b l = go m b (λ k p i j h. startFrom-fuel t n k p i j h)
-    where
-      go : (m : ℕ) → w < m → ((k p : ℕ) → p < n → p < k → p < T .counts .versions → startFrom (T .version) t n p ≡ startFrom (T .version) t k p)
-          → cond (leb (T .version w .start) t) w (startFrom (T .version) t n (T .version w .previous .0)) ≡ startFrom (T .version) t m w
-      go zero b ih = absurd (omega arith)
-      go (suc k) b ih = by (leb (T .version w .start) t) refl
-        where
-          by : (c : Bool) → leb (T .version w .start) t ≡ c
-              → cond c w (startFrom (T .version) t n (T .version w .previous .0)) ≡ cond c w (startFrom (T .version) t k (T .version w .previous .0))
-          by true q = refl
-          by false q = let p = previous-lower t w l (leb-false _ _ q) in ih k (T .version w .previous .0) (omega arith) (omega arith) (omega arith)
-
-  pub startFrom-back : (t n w : ℕ) → w < n → w < T .counts .versions → t < T .version w .start
-      → startFrom (T .version) t n w ≡ startFrom (T .version) t n (T .version w .previous .0)
-  startFrom-back t zero w a l h = absurd (omega arith)
-  startFrom-back t (suc n) w a l h =
-      let p = previous-lower t w l h in
-      startFrom-suc T t n w h ∙ startFrom-fuel t n (suc n) (T .version w .previous .0) (omega arith) (omega arith) (omega arith)
 
   -- what the search finds exists, is of the same entity and starts by t
   abbrev Found : ℕ → ℕ → ℕ → Type 0

@@ -6,21 +6,14 @@ use mathlib.Core.Logic.{_⊎_, inl, inr}
 use mathlib.Core.Bool.{Bool, true, false, cond}
 use lib.Dec.{leb}
 use borrow.Author.Tests.{leb-false}
-use Rattle.rows.specs.declared.Counts.{Counts}
-use Rattle.rows.specs.Capacity.{versionCapacity}
-use Rattle.rules.specs.Trail.{Tables, capacityOf, Trail, none, latestOf, ownerOf}
+use Rattle.rules.specs.Trail.{Trail, none, latestOf, ownerOf}
 use Rattle.rules.specs.Start.{OnChain, StartVersion, startFrom, startOf}
-use Rattle.soundness.specs.Facts.{CountFacts, RowFacts}
+use Rattle.soundness.specs.Facts.{RowFacts}
 use Rattle.closure.proofs.Start.{startFrom-stop, previous-lower, previous-before, start-by}
 
 -- only one version is the start version
 pub startVersion-unique : {T : Trail} {x t s s′ : ℕ} → StartVersion T x t s → StartVersion T x t s′ → s ≡ s′
 startVersion-unique {s = s} {s′ = s′} a b = omega (arith, a .highest s′ (b .on-chain) (b .by), b .highest s (a .on-chain) (a .by))
-
--- what the capacity allows is below none
-pub versions-few : (c : Counts) (t : Tables) → CountFacts (capacityOf t) c → c .versions ≤ none
-unfolding versionCapacity
-versions-few c t f = omega (arith, f .versions-in)
 
 module _ (T : Trail) (f : RowFacts T) where
   -- a version on the chain exists and is of the entity
