@@ -8,7 +8,7 @@ use crate::tables::Tables;
 use guarded::Guarded;
 
 mod guarded;
-mod interface;
+pub mod interface;
 
 /// The name of a lent value before or after which the archive wrote.
 #[derive(Clone, Copy, Debug, PartialEq, Eq)]

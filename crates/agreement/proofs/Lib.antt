@@ -15,7 +15,6 @@ pub mod Decided
 pub mod Passing
 pub mod Relogged
 pub mod Again
-pub mod IntakeAgain
 pub mod TracesAgain
 pub mod SameCalls
 pub mod Times

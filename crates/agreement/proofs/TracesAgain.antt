@@ -16,9 +16,9 @@ use Rattle.closure.proofs.Marks.{marks-ext}
 use Rattle.closure.proofs.Traces.{backward-marks, forward-marks, length-backwardEntities, length-forwardEntities, bits-backwardEntities, bits-forwardEntities}
 use Rattle.causality.specs.Order.{upTo, since}
 use Rattle.causality.proofs.Reach.{Reach, reach-path}
+use Rattle.causality.proofs.IntakeTime.{latestTime, latestTime-one}
 use Rattle.agreement.proofs.Held.{Known}
 use Rattle.agreement.proofs.KeptOnly.{allKept, accepted-allKept, keptEvents-allKept, forward-kept, backward-kept}
-use Rattle.agreement.proofs.IntakeAgain.{latestTime, intake-one}
 
 -- The traces of one trail
 
@@ -69,6 +69,6 @@ module _ {T U : Trail} {n m : ℕ} {hs : List Item} (k : Known T n hs) (j : Know
   unfolding forwardIntake
   intake-again u t h =
       let i : u < U .counts .entities = omega arith in
-      intake-one u t _ _ (j .faithful .intake u t (startOf U u t) i (startOf-is U (j .rows) (j .few) u t i))
+      latestTime-one u t _ _ (j .faithful .intake u t (startOf U u t) i (startOf-is U (j .rows) (j .few) u t i))
       ∙ ap (latestTime u t) (keptEvents-allKept (keptEvents hs))
-      ∙ sym (intake-one u t _ _ (k .faithful .intake u t (startOf T u t) h (startOf-is T (k .rows) (k .few) u t h)))
+      ∙ sym (latestTime-one u t _ _ (k .faithful .intake u t (startOf T u t) h (startOf-is T (k .rows) (k .few) u t h)))

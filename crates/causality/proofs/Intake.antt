@@ -1,13 +1,12 @@
 -- The intake of a forward trace is the time of the latest kept intake at or before t, 0 if there is none.
 use Prim.Native.Nat.{ℕ, _≤_, _<_}
 use native.Mathlib.Omega.{arith}
-use mathlib.Core.Path.{_≡_, refl, sym, _∙_, ap}
-use mathlib.Core.Logic.{_⊎_, inl, inr}
+use mathlib.Core.Path.{_≡_, sym, _∙_, ap}
+use mathlib.Core.Logic.{inl, inr}
 use mathlib.Core.Bool.{cond}
-use mathlib.Core.List.{List, [], _∷_, _++_}
-use Rattle.record.specs.declared.Event.{Event}
+use mathlib.Core.List.{List}
 use Rattle.rules.specs.Trail.{Trail, latestOf}
-use Rattle.rules.specs.History.{Item, kept, dropped, accepted, NoIntake, LatestIntake, IntakeTime, ofIntake, ofNone}
+use Rattle.rules.specs.History.{Item, accepted, keptEvents, IntakeTime}
 use Rattle.rules.specs.Start.{intakeOf}
 use Rattle.causality.specs.Working.{ne, nv, startTime, EdgeIn, Grown}
 use Rattle.causality.specs.Order.{into}
@@ -17,7 +16,8 @@ use Rattle.causality.proofs.Kept.{kept-latest, NewLatest, w-other}
 use Rattle.causality.proofs.KeptInvariant.{inv-kept}
 use Rattle.causality.proofs.Growth.{inv, grown-ind, OnDeclared, OnKept}
 use Rattle.causality.proofs.Reach.{All-imp}
-use Rattle.causality.proofs.Parts.{IntoCase, into-cases, latest-intake}
+use Rattle.causality.proofs.Parts.{IntoCase, into-cases}
+use Rattle.causality.proofs.IntakeTime.{latestTime, latestTime-none, latestTime-is}
 use Rattle.causality.proofs.Accepted.{grown-within, no-intake}
 use Rattle.causality.proofs.Walk.{StartsAt, walk-last, walk-start, walk-declared, starts-in, starts-back, Rooted, rooted}
 use Rattle.causality.proofs.Greatest.{Intake, IsIntake, intake-is}
@@ -34,48 +34,9 @@ intake-one T s t r i j p q = omega (arith, le i j p q (p .intake), le j i q p (q
     le i j p q (inl z) = start i j p q z r
     le i j p q (inr (a, z)) = q .most a i z (p .by)
 
--- the time of the latest kept intake, as a recurrence
-intakeIn : ℕ → ℕ → List Item → ℕ
-intakeIn u t [] = 0
-intakeIn u t (kept e ∷ hs) = cond (into u t e) (e .time) (intakeIn u t hs)
-intakeIn u t (dropped e ∷ hs) = intakeIn u t hs
-
-intake-none : (u t : ℕ) (hs : List Item) → NoIntake u t hs → intakeIn u t hs ≡ 0
-unfolding intakeIn
-intake-none u t [] n = refl
-intake-none u t (dropped e ∷ hs) n = intake-none u t hs n
-intake-none u t (kept e ∷ hs) n = go (into-cases u t e) (intake-none u t hs (n .1))
-  where
-    go : IntoCase u t e → intakeIn u t hs ≡ 0 → cond (into u t e) (e .time) (intakeIn u t hs) ≡ 0
-    go (inl c) ih = absurd (n .0 (c .0) (c .1))
-    go (inr c) ih = rw (c .1) ih
-
-module _ (u t : ℕ) (e : Event) (earlier : List Item) (enters : e .target .0 ≡ u) (by : e .time ≤ t) where
-  intake-at : (later : List Item) → NoIntake u t later → intakeIn u t (later ++ (kept e ∷ earlier)) ≡ e .time
-  unfolding intakeIn
-  intake-at [] n = go (into-cases u t e)
-    where
-      go : IntoCase u t e → cond (into u t e) (e .time) (intakeIn u t earlier) ≡ e .time
-      go (inl c) = rw (c .2)
-      go (inr c) = absurd (c .0 enters by)
-  intake-at (dropped d ∷ later) n = intake-at later n
-  intake-at (kept d ∷ later) n = go (into-cases u t d) (intake-at later (n .1))
-    where
-      go : IntoCase u t d → intakeIn u t (later ++ (kept e ∷ earlier)) ≡ e .time
-          → cond (into u t d) (d .time) (intakeIn u t (later ++ (kept e ∷ earlier))) ≡ e .time
-      go (inl c) ih = absurd (n .0 (c .0) (c .1))
-      go (inr c) ih = rw (c .1) ih
-
-intake-time : (u t : ℕ) (hs : List Item) → IntakeTime u t hs (intakeIn u t hs)
-intake-time u t hs = go (latest-intake u t hs)
-  where
-    go : LatestIntake u t hs ⊎ NoIntake u t hs → IntakeTime u t hs (intakeIn u t hs)
-    go (inl l) = ofIntake l (ap (intakeIn u t) (l .split) ∙ intake-at u t (l .intake) (l .earlier) (l .enters) (l .by) (l .later) (l .latest))
-    go (inr n) = ofNone n (intake-none u t hs n)
-
--- it is the intake of the start version
+-- the time of the latest kept intake is the intake of the start version
 abbrev Timed : Trail → List Item → Type 0
-Timed T hs = (u t s : ℕ) → u < ne T → StartsAt T u t s → IsIntake T s t (intakeIn u t hs)
+Timed T hs = (u t s : ℕ) → u < ne T → StartsAt T u t s → IsIntake T s t (latestTime u t (keptEvents hs))
 
 -- a start version that was there, and that no edge enters by t since
 stays : {T T′ : Trail} {s t i : ℕ} → startTime T′ s ≡ startTime T s → ((a x : ℕ) → EdgeIn T a s x → EdgeIn T′ a s x)
@@ -92,17 +53,17 @@ stays {T} {T′} {s} {t} {i} q old new p = go (p .intake)
 timed-declared : OnDeclared Timed
 timed-declared T T′ hs g d ih u t s h r = go (d .entity-inv u h)
   where
-    go : OldEntity T u → IsIntake T′ s t (intakeIn u t hs)
+    go : OldEntity T u → IsIntake T′ s t (latestTime u t (keptEvents hs))
     go (inl m) =
         let z = walk-declared (inv g) d (inv g .latest-in u m) (rw (d .row .latest-old u m) at r) in
         stays (d .start-old s (starts-in (inv g) m z)) (λ a x k. d .edge-old k) (λ a x k l. d .edge-inv k) (ih u t s m z)
     go (inr q) =
         let y : nv T ≡ s = walk-last (omega (arith, d .row .start-new)) (rw (q, d .row .latest-new) at r) in
-        rw (q, intake-none (ne T) t hs (no-intake (ne T) t hs (All-imp (λ e w q _. omega (arith, w .target-in)) (accepted hs) (grown-within g))), ← y)
+        rw (q, latestTime-none (ne T) t hs (no-intake (ne T) t hs (All-imp (λ e w q _. omega (arith, w .target-in)) (accepted hs) (grown-within g))), ← y)
         (record { intake = inl (sym (d .row .start-new)); by = omega arith; most = λ a x k l. absurd (omega (arith, inv g .to-in (d .edge-inv k))) })
 
 timed-kept : OnKept Timed
-unfolding intakeIn
+unfolding latestTime
 timed-kept T T′ hs e w g k ih u t s h r = go (into-cases u t e)
   where
     m : u < ne T
@@ -116,7 +77,7 @@ timed-kept T T′ hs e w g k ih u t s h r = go (into-cases u t e)
         rw (← o) (record { intake = inr (latestOf T (e .source .0), k .now .edge-new); by = l; most = λ a x c _. inv-kept k .time-in c })
 
     -- it does not, by t
-    other : (e .target .0 ≡ u → e .time ≤ t → ⊥) → IsIntake T′ s t (intakeIn u t hs)
+    other : (e .target .0 ≡ u → e .time ≤ t → ⊥) → IsIntake T′ s t (latestTime u t (keptEvents hs))
     other n = stays (k .now .start-old s (starts-in (k .was) m z)) (λ a x y. k .now .edge-old y) (λ a x y l. new a x l (k .now .edge-inv y)) (ih u t s m z)
       where
         late : (e .time ≤ t → ⊥) → t < e .time
@@ -133,13 +94,13 @@ timed-kept T T′ hs e w g k ih u t s h r = go (into-cases u t e)
         new a x l (inl o) = o
         new a x l (inr o) = absurd (not-w (o .1) (omega (arith, o .2)) (kept-latest k u m))
 
-    go : IntoCase u t e → IsIntake T′ s t (cond (into u t e) (e .time) (intakeIn u t hs))
+    go : IntoCase u t e → IsIntake T′ s t (cond (into u t e) (e .time) (latestTime u t (keptEvents hs)))
     go (inl c) = rw (c .2) (now (c .0) (c .1))
     go (inr c) = rw (c .1) (other (c .0))
 
 timed : {T : Trail} {hs : List Item} → Grown T hs → Timed T hs
-timed g = grown-ind Timed (λ T x _ _ u t s h. absurd (omega arith)) timed-declared (λ T hs e g f l ih. unfold intakeIn in ih) timed-kept g
+timed g = grown-ind Timed (λ T x _ _ u t s h. absurd (omega arith)) timed-declared (λ T hs e g f l ih. ih) timed-kept g
 
 pub intake-is-latest : {T : Trail} {hs : List Item} → Grown T hs → (u t s : ℕ) → u < ne T → StartsAt T u t s → IntakeTime u t hs (intakeOf T s t)
 intake-is-latest {T} {hs} g u t s h r =
-    rw (intake-one T s t (rooted g s (starts-in (inv g) h r)) (intakeOf T s t) (intakeIn u t hs) (intake-is T s t (walk-start r)) (timed g u t s h r)) (intake-time u t hs)
+    rw (intake-one T s t (rooted g s (starts-in (inv g) h r)) (intakeOf T s t) (latestTime u t (keptEvents hs)) (intake-is T s t (walk-start r)) (timed g u t s h r)) (latestTime-is u t hs)

@@ -19,6 +19,7 @@ pub mod Backward
 pub mod Later
 pub mod Log
 pub mod Greatest
+pub mod IntakeTime
 pub mod Intake
 pub mod Strict
 pub mod PathsBy

@@ -27,6 +27,20 @@ into-cases u t e = go (eqb (e .target .0) u) refl (leb (e .time) t) refl
     go true q false r = inr ((λ _ l. omega (arith, leb-false (e .time) t r)), refl)
     go false q c r = inr ((λ z _. eqb-false _ _ q z), refl)
 
+pub into-true : (u t : ℕ) (e : Event) → e .target .0 ≡ u → e .time ≤ t → into u t e ≡ true
+into-true u t e p q = go (into-cases u t e)
+  where
+    go : IntoCase u t e → into u t e ≡ true
+    go (inl c) = c .2
+    go (inr c) = absurd (c .0 p q)
+
+pub into-false : (u t : ℕ) (e : Event) → (e .target .0 ≡ u → e .time ≤ t → ⊥) → into u t e ≡ false
+into-false u t e n = go (into-cases u t e)
+  where
+    go : IntoCase u t e → into u t e ≡ false
+    go (inl c) = absurd (n (c .0) (c .1))
+    go (inr c) = c .1
+
 -- the events by t
 pub upTo-in : (t : ℕ) (e : Event) (es : List Event) → e .time ≤ t → upTo t (e ∷ es) ≡ e ∷ upTo t es
 unfolding upTo
@@ -58,27 +72,14 @@ pub since-none : (u t : ℕ) (hs : List Item) → NoIntake u t hs → since u t 
 unfolding since
 since-none u t [] n = refl
 since-none u t (dropped e ∷ hs) n = ap (λ (l : List Event). e ∷ l) (since-none u t hs n)
-since-none u t (kept e ∷ hs) n = go (into-cases u t e) (since-none u t hs (n .1))
-  where
-    go : IntoCase u t e → since u t hs ≡ accepted hs → cond (into u t e) [] (e ∷ since u t hs) ≡ e ∷ accepted hs
-    go (inl c) ih = absurd (n .0 (c .0) (c .1))
-    go (inr c) ih = rw (c .1) (ap (λ (l : List Event). e ∷ l) ih)
+since-none u t (kept e ∷ hs) n = rw (into-false u t e (n .0)) (ap (λ (l : List Event). e ∷ l) (since-none u t hs (n .1)))
 
 module _ (u t : ℕ) (e : Event) (earlier : List Item) (enters : e .target .0 ≡ u) (by : e .time ≤ t) where
   since-at : (later : List Item) → NoIntake u t later → since u t (later ++ (kept e ∷ earlier)) ≡ accepted later
   unfolding since
-  since-at [] n = go (into-cases u t e)
-    where
-      go : IntoCase u t e → cond (into u t e) [] (e ∷ since u t earlier) ≡ []
-      go (inl c) = rw (c .2)
-      go (inr c) = absurd (c .0 enters by)
+  since-at [] n = rw (into-true u t e enters by)
   since-at (dropped d ∷ later) n = ap (λ (l : List Event). d ∷ l) (since-at later n)
-  since-at (kept d ∷ later) n = go (into-cases u t d) (since-at later (n .1))
-    where
-      go : IntoCase u t d → since u t (later ++ (kept e ∷ earlier)) ≡ accepted later
-          → cond (into u t d) [] (d ∷ since u t (later ++ (kept e ∷ earlier))) ≡ d ∷ accepted later
-      go (inl c) ih = absurd (n .0 (c .0) (c .1))
-      go (inr c) ih = rw (c .1) (ap (λ (l : List Event). d ∷ l) ih)
+  since-at (kept d ∷ later) n = rw (into-false u t d (n .0)) (ap (λ (l : List Event). d ∷ l) (since-at later (n .1)))
 
 pub since-intake : {u t : ℕ} {hs : List Item} (l : LatestIntake u t hs) → since u t hs ≡ accepted (l .later)
 since-intake {u} {t} l = ap (since u t) (l .split) ∙ since-at u t (l .intake) (l .earlier) (l .enters) (l .by) (l .later) (l .latest)

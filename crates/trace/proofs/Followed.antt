@@ -11,7 +11,7 @@ use borrow.Author.Tests.{eqb-true}
 use Rattle.rules.specs.Marks.{Arc, arc, follow, pass, passes}
 use Rattle.closure.proofs.Marks.{set-marked}
 use Rattle.closure.proofs.Passes.{keeps-pass, keeps-passes}
-use Rattle.trace.specs.Followed.{fires, changes, Followed}
+use Rattle.trace.specs.Followed.{MarkedIf, fires, changes, Followed}
 use Rattle.trace.specs.TraceArcs.{when}
 
 or-none : (a b : Bool) → (a || b) ≡ false → (a ≡ false) × (b ≡ false)
@@ -28,14 +28,18 @@ follow-still a m h = go (eqb (getD m (a .from) 0) 1) (eqb (getD m (a .to) 0) 1) 
     go true false q z = absurd (let y : _≡_ {A = ℕ} 0 1 = cc in omega arith)
     go false b q z = refl
 
--- one arc, by what was read of its two ends
+-- one arc
 module _ (m : List ℕ) (f t : ℕ) where
-  arc-fires : (c : Bool) (m′ : List ℕ) → c ≡ fires (arc f t) m → m′ ≡ follow (arc f t) m → Followed (arc f t ∷ []) m c m′
-  unfolding changes pass
-  arc-fires c m′ q r = record { changed = q ∙ sym (or-false (fires (arc f t) m)); marks = r }
+  pub arc-followed : (r c : Bool) (m′ : List ℕ) → r ≡ eqb (getD m f 0) 1 → MarkedIf r t m c m′ → Followed (arc f t ∷ []) m c m′
+  unfolding changes pass fires follow
+  arc-followed r c m′ q w = record {
+    changed = w .changed ∙ ap (λ b. b && not (eqb (getD m t 0) 1)) q ∙ sym (or-false (fires (arc f t) m));
+    marks = w .marks ∙ ap (λ b. cond b (set m t 1) m) q;
+  }
 
   arc-still : fires (arc f t) m ≡ false → Followed (arc f t ∷ []) m false m
-  arc-still h = arc-fires false m (sym h) (sym (follow-still (arc f t) m h))
+  unfolding changes pass
+  arc-still h = record { changed = sym (or-false (fires (arc f t) m) ∙ h); marks = sym (follow-still (arc f t) m h) }
 
   pub arc-marked : (r : Bool) → r ≡ eqb (getD m t 0) 1 → r ≡ true → Followed (arc f t ∷ []) m false m
   unfolding fires
@@ -48,11 +52,6 @@ module _ (m : List ℕ) (f t : ℕ) where
   pub arc-idle : (r : Bool) → r ≡ eqb (getD m f 0) 1 → r ≡ false → Followed (arc f t ∷ []) m false m
   unfolding fires
   arc-idle r q h = arc-still (rw (← q, h))
-
-  pub arc-new : (r r′ : Bool) (m′ : List ℕ) → r ≡ eqb (getD m t 0) 1 → r ≡ false → r′ ≡ eqb (getD m f 0) 1 → r′ ≡ true → m′ ≡ set m t 1
-      → Followed (arc f t ∷ []) m true m′
-  unfolding fires follow
-  arc-new r r′ m′ q h q′ h′ e = arc-fires true m′ (rw (← q, h, ← q′, h′)) (rw (← q′, h′) e)
 
 -- no arc
 pub followed-none : (m : List ℕ) → Followed [] m false m

@@ -1,11 +1,16 @@
 -- A pass over arcs as code makes it: the marks after it, and whether it added one.
 use Prim.Native.Nat.{ℕ, zero, suc}
 use mathlib.Core.Path.{_≡_}
-use mathlib.Core.Bool.{Bool, false, _&&_, _||_, not}
+use mathlib.Core.Bool.{Bool, false, _&&_, _||_, not, cond}
 use mathlib.Core.List.{List, [], _∷_, _++_}
-use lib.ListN.{getD}
+use lib.ListN.{getD, set}
 use lib.Dec.{eqb}
 use Rattle.rules.specs.Marks.{Arc, follow, pass}
+
+-- from m, place i is marked where b holds, which makes m′, and c says whether that is a new mark
+pub record MarkedIf (b : Bool) (i : ℕ) (m : List ℕ) (c : Bool) (m′ : List ℕ) : Type 0 where
+  pub changed : c ≡ b && not (eqb (getD m i 0) 1)
+  pub marks : m′ ≡ cond b (set m i 1) m
 
 -- the arc adds a mark
 unfoldable pub fires : Arc → List ℕ → Bool

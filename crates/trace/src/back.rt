@@ -1,16 +1,15 @@
 // Closing marked versions backward: against edges and to previous versions, the highest number first.
-use super::fields::edge_from;
-use super::fields::edge_time;
-use super::fields::edge_to;
-use super::fields::version_previous;
 use super::marks::clear;
-use super::marks::either;
 use super::marks::follow_arc;
 use super::marks::mark;
 use super::marks::marked;
 use rows::Counts;
 use rows::EdgeNo;
 use rows::VersionNo;
+use rows::edge_from;
+use rows::edge_time;
+use rows::edge_to;
+use rows::version_previous;
 use soundness::NONE;
 ghost use Prim.Native.Nat.{_≤_};
 ghost use mathlib.Core.Path.{_≡_};
@@ -78,7 +77,7 @@ fn enter_back(
 {
     let a = source_back(edges, work, s, t, k, to);
     let b = step_back(versions, work, to);
-    either(a, b)
+    a | b
 }
 
 // The same, where nothing is read of an edge that enters a version not marked.
@@ -114,7 +113,7 @@ fn edges_back(
     while 0 < k {
         k -= 1;
         let r = edge_back(versions, edges, work, s, t, EdgeNo(k));
-        changed = either(changed, r);
+        changed = changed | r;
     }
     changed
 }
@@ -127,7 +126,7 @@ fn steps_back(versions: &[u32], n: u32, work: &mut [u8]) -> bool
     while 0 < v {
         v -= 1;
         let r = step_back(versions, work, VersionNo(v));
-        changed = either(changed, r);
+        changed = changed | r;
     }
     changed
 }
@@ -146,7 +145,7 @@ fn pass_back(
 {
     let a = edges_back(versions, edges, d, work, s, t);
     let b = steps_back(versions, n, work);
-    either(a, b)
+    a | b
 }
 
 // Passes until one adds no mark: each other one adds one, so n are enough. Any versions may be marked at the beginning.

@@ -1,9 +1,9 @@
 // The intake of a forward trace.
-use super::fields::edge_time;
-use super::fields::edge_to;
-use super::fields::version_start;
 use rows::EdgeNo;
 use rows::VersionNo;
+use rows::edge_time;
+use rows::edge_to;
+use rows::version_start;
 use rules::Found;
 ghost use mathlib.Core.Path.{_≡_};
 ghost use Rattle.rows.specs.Rows.{versionAt, edgeAt};

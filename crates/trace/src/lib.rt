@@ -1,7 +1,6 @@
 // Backward and forward traces over the lent tables (document 01, "Traces"). The lent buffers are all the memory they use.
 mod back;
 mod checks;
-mod fields;
 mod intake;
 mod marks;
 mod on;

@@ -2,12 +2,12 @@
 use rows::VersionNo;
 ghost use Prim.Native.Nat.{_≤_};
 ghost use mathlib.Core.Path.{_≡_};
-ghost use mathlib.Core.Bool.{_||_};
+ghost use mathlib.Core.Bool.{cond};
 ghost use mathlib.Core.List.{[], _∷_, _++_};
 ghost use lib.ListN.{length, getD, set, drop, replicate};
 ghost use lib.Dec.{eqb};
 ghost use Rattle.rules.specs.Marks.{arc};
-ghost use Rattle.trace.specs.Followed.{Followed};
+ghost use Rattle.trace.specs.Followed.{MarkedIf, Followed};
 
 // The byte at i, 0 past the end.
 fn byte_at(xs: &[u8], i: usize) -> u8
@@ -51,25 +51,27 @@ pub fn clear(m: &mut [u8], n: u32)
     }
 }
 
-pub fn either(a: bool, b: bool) -> bool
-    ensures { λ r. ⌜ r ≡ a || b ⌝ }
+// 1 where the test holds, else b.
+fn one_if(test: bool, b: u8) -> u8
+    ensures { λ r. ⌜ r ≡ cond test 1 b ⌝ }
 {
-    if a {
-        return true;
-    }
-    b
+    if test { 1 } else { b }
+}
+
+// Marks place i where the test holds, and says whether that is a new mark. It writes in any case: a branch on a mark cannot be predicted.
+pub fn mark_if(m: &mut [u8], i: u32, test: bool) -> bool
+    ensures { λ r. ⌜ MarkedIf test i (now (m .entry)) r (now (m .exit)) ⌝ }
+{
+    let old = byte_at(m, i as usize);
+    let new = one_if(test, old);
+    put_byte(m, i as usize, new);
+    old != new
 }
 
 // Marks version `to` where `from` is marked, and says whether that is a new mark.
 pub fn follow_arc(m: &mut [u8], from: VersionNo, to: VersionNo) -> bool
     ensures { λ r. ⌜ Followed (arc (from .0) (to .0) ∷ []) (now (m .entry)) r (now (m .exit)) ⌝ }
 {
-    if marked(m, to.0) {
-        return false;
-    }
-    if marked(m, from.0) {
-        mark(m, to.0);
-        return true;
-    }
-    false
+    let test = marked(m, from.0);
+    mark_if(m, to.0, test)
 }

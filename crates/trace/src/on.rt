@@ -1,15 +1,14 @@
 // Closing marked versions forward: along edges and from previous versions, the lowest number first.
-use super::fields::edge_from;
-use super::fields::edge_to;
-use super::fields::version_previous;
 use super::marks::clear;
-use super::marks::either;
 use super::marks::follow_arc;
 use super::marks::mark;
 use super::marks::marked;
 use rows::Counts;
 use rows::EdgeNo;
 use rows::VersionNo;
+use rows::edge_from;
+use rows::edge_to;
+use rows::version_previous;
 use soundness::NONE;
 ghost use Prim.Native.Nat.{_≤_};
 ghost use mathlib.Core.Path.{_≡_};
@@ -39,7 +38,7 @@ fn enter_on(versions: &[u32], edges: &[u32], work: &mut [u8], k: EdgeNo, to: Ver
     let from = edge_from(edges, k);
     let a = follow_arc(work, from, to);
     let b = step_on(versions, work, to);
-    either(a, b)
+    a | b
 }
 
 // The same, where nothing is read of an edge that enters a marked version.
@@ -60,7 +59,7 @@ fn edges_on(versions: &[u32], edges: &[u32], d: u32, work: &mut [u8]) -> bool
     let mut k: u32 = 0;
     while k < d {
         let r = edge_on(versions, edges, work, EdgeNo(k));
-        changed = either(changed, r);
+        changed = changed | r;
         k += 1;
     }
     changed
@@ -73,7 +72,7 @@ fn steps_on(versions: &[u32], n: u32, work: &mut [u8]) -> bool
     let mut v: u32 = 0;
     while v < n {
         let r = step_on(versions, work, VersionNo(v));
-        changed = either(changed, r);
+        changed = changed | r;
         v += 1;
     }
     changed
@@ -85,7 +84,7 @@ fn pass_on(versions: &[u32], n: u32, edges: &[u32], d: u32, work: &mut [u8]) -> 
 {
     let a = edges_on(versions, edges, d, work);
     let b = steps_on(versions, n, work);
-    either(a, b)
+    a | b
 }
 
 // Passes until one adds no mark: each other one adds one, so n are enough. Any versions may be marked at the beginning.

@@ -1,9 +1,9 @@
 // The entities of marked versions, and how many they are.
-use super::fields::version_entity;
 use super::marks::clear;
 use super::marks::mark;
 use super::marks::marked;
 use rows::VersionNo;
+use rows::version_entity;
 ghost use Prim.Native.Nat.{_≤_};
 ghost use mathlib.Core.Path.{_≡_};
 ghost use mathlib.Core.Bool.{cond};

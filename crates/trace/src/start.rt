@@ -1,10 +1,10 @@
 // The start version of a trace.
-use super::fields::entity_latest;
-use super::fields::version_previous;
-use super::fields::version_start;
 use rows::Counts;
 use rows::EntityNo;
 use rows::VersionNo;
+use rows::entity_latest;
+use rows::version_previous;
+use rows::version_start;
 ghost use mathlib.Core.Path.{_≡_};
 ghost use mathlib.Core.List.{[]};
 ghost use Rattle.rows.specs.Rows.{versionAt};

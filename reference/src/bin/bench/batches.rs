@@ -82,6 +82,7 @@ pub fn from_fresh(name: &str, goal: Goal, file: &[u8], times: u32) -> Line {
         library,
         peer: Some(of_peer),
         floor,
+        row_floor: None,
         events: Some(accepted),
     }
 }
@@ -214,6 +215,7 @@ pub fn batches_on(
         library,
         peer: Some(of_peer),
         floor,
+        row_floor: None,
         events: Some(events),
     }
 }

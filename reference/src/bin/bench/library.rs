@@ -1,64 +1,7 @@
 //! The library's calls on lent tables, with nothing copied.
 
-use reference::{BackwardAnswer, BatchAnswer, Counts, ForwardAnswer, LogAnswer, Tables};
-
-extern "C" {
-    fn slt_batch(
-        counts: *mut Counts,
-        entities: *mut u32,
-        entities_length: usize,
-        versions: *mut u32,
-        versions_length: usize,
-        edges: *mut u32,
-        edges_length: usize,
-        file: *const u8,
-        file_length: usize,
-    ) -> BatchAnswer;
-
-    fn slt_backward(
-        counts: Counts,
-        entities: *const u32,
-        entities_length: usize,
-        versions: *const u32,
-        versions_length: usize,
-        edges: *const u32,
-        edges_length: usize,
-        entity: u32,
-        time: u32,
-        work: *mut u8,
-        work_length: usize,
-        marks: *mut u8,
-        marks_length: usize,
-    ) -> BackwardAnswer;
-
-    fn slt_forward(
-        counts: Counts,
-        entities: *const u32,
-        entities_length: usize,
-        versions: *const u32,
-        versions_length: usize,
-        edges: *const u32,
-        edges_length: usize,
-        entity: u32,
-        time: u32,
-        work: *mut u8,
-        work_length: usize,
-        marks: *mut u8,
-        marks_length: usize,
-    ) -> ForwardAnswer;
-
-    fn slt_kept_log(
-        counts: Counts,
-        entities: *const u32,
-        entities_length: usize,
-        versions: *const u32,
-        versions_length: usize,
-        edges: *const u32,
-        edges_length: usize,
-        out: *mut u8,
-        out_length: usize,
-    ) -> LogAnswer;
-}
+use reference::archive::interface::{slt_backward, slt_batch, slt_forward, slt_kept_log};
+use reference::{BackwardAnswer, BatchAnswer, ForwardAnswer, LogAnswer, Tables};
 
 pub fn batch(tables: &mut Tables, file: &[u8]) -> BatchAnswer {
     // Sound: each pointer and length belong to a slice of their own.

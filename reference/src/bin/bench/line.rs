@@ -7,8 +7,6 @@ pub enum Goal {
     RepeatBatch,
     Trace,
     SoundnessTest,
-    /// No goal: the read a row at a time, which other goals are set beside.
-    RowRead,
     None,
 }
 
@@ -20,6 +18,9 @@ pub struct Line {
     pub library: f64,
     pub peer: Option<f64>,
     pub floor: f64,
+    /// The floor with the tables read a row at a time, if it is a call that
+    /// reads them and no file.
+    pub row_floor: Option<f64>,
     /// The events taken in, if it is a batch.
     pub events: Option<u32>,
 }
@@ -33,6 +34,11 @@ impl Line {
     /// Library to floor.
     pub fn to_floor(&self) -> f64 {
         self.library / self.floor
+    }
+
+    /// Library to the read a row at a time.
+    pub fn to_row_floor(&self) -> Option<f64> {
+        self.row_floor.map(|floor| self.library / floor)
     }
 
     pub fn events_a_second(&self) -> Option<f64> {

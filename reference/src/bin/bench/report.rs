@@ -18,7 +18,10 @@ library  is lent the tables at each call: it tests them (refusal 16), a batch
          is made anew it takes over the lent tables at each batch, untested.
 (b)      batch: one pass that decodes the file, and on a trail with rows one
          pass that reads the tables; trace and kept log: one pass that reads
-         the tables. Each number is read once and added up.
+         the tables. Each number is read once and added up; the compiler
+         makes vector code of it.
+(b) rows the same read of the tables a row at a time, each row tested to be
+         within its table.
 
 Buffers: those of both sides are allocated, and written by a round that does
 not count, before any time is taken. Each run starts from counts put back to
@@ -27,15 +30,22 @@ what they were (the peer cleared, its memory kept). Sides run in turn.
 
 pub fn print_heading() {
     println!("{HEADING}");
-    let titles = ("library/(a)", "library/(b)", "events/s");
-    println!("{:<70}{:>12}{:>12}{:>13}", "", titles.0, titles.1, titles.2);
+    print_columns(
+        "",
+        ["library/(a)", "library/(b)", "/(b) rows", "events/s"].map(String::from),
+    );
 }
 
 pub fn print_line(line: &Line) {
-    let to_peer = line.to_peer().map_or("-".to_string(), ratio);
     let events = line.events_a_second().map_or("-".to_string(), thousands);
-    let to_floor = ratio(line.to_floor());
-    println!("{:<70}{to_peer:>12}{to_floor:>12}{events:>13}", line.name);
+    let ratios = [line.to_peer(), Some(line.to_floor()), line.to_row_floor()];
+    let [to_peer, to_floor, to_row_floor] =
+        ratios.map(|value| value.map_or("-".to_string(), ratio));
+    print_columns(&line.name, [to_peer, to_floor, to_row_floor, events]);
+}
+
+fn print_columns(name: &str, [peer, floor, row_floor, events]: [String; 4]) {
+    println!("{name:<70}{peer:>12}{floor:>12}{row_floor:>12}{events:>13}");
 }
 
 fn ratio(ratio: f64) -> String {
@@ -92,18 +102,16 @@ pub fn print_goals(lines: &[Line], growth: &Growth) {
     }
     let name = "cost of an event at 262,144 edges to that at 4,096";
     print_goal(name, growth.largest(), 1.5);
-    print_reads(lines, "the plain read (b)", 1.0);
-    for line in of_goal(lines, &[Goal::RowRead]) {
-        print_reads(lines, "the read a row at a time", line.to_floor());
-    }
+    print_reads(lines, "the plain read (b)", |line| Some(line.to_floor()));
+    print_reads(lines, "(b) rows", Line::to_row_floor);
 }
 
-/// The goals set by a read of the tables; the read takes so much of (b).
-fn print_reads(lines: &[Line], read: &str, cost: f64) {
+/// The goals set by a read of the tables.
+fn print_reads(lines: &[Line], read: &str, to_read: impl Fn(&Line) -> Option<f64>) {
     for (goal, most) in [(Goal::Trace, 4.0), (Goal::SoundnessTest, 3.0)] {
         for line in of_goal(lines, &[goal]) {
             let name = format!("to {read}, {}", line.name);
-            print_goal(&name, line.to_floor() / cost, most);
+            print_goal(&name, to_read(line).unwrap_or(0.0), most);
         }
     }
 }

@@ -69,10 +69,11 @@ impl Trace {
         let answer = self.on_library(tables, &mut of_library);
         assert_eq!(answer, self.on_peer(peer, &mut of_peer));
         assert!(of_library.work == of_peer.work && of_library.marks == of_peer.marks);
-        let [library, peer, floor] = medians([
+        let [library, peer, floor, row_floor] = medians([
             Box::new(|| repeated(|| self.on_library(tables, &mut of_library))),
             Box::new(|| repeated(|| self.on_peer(peer, &mut of_peer))),
             Box::new(|| repeated(|| read_tables(tables))),
+            Box::new(|| repeated(|| read_rows(tables))),
         ]);
         let (direction, count) = (self.direction(), answer[1]);
         Line {
@@ -81,6 +82,7 @@ impl Trace {
             library,
             peer: Some(peer),
             floor,
+            row_floor: Some(row_floor),
             events: None,
         }
     }
@@ -122,7 +124,7 @@ impl FullTrail {
     }
 
     /// The kept log, written and refused, a refused trace, and beside them
-    /// other reads of the tables.
+    /// another read of the tables.
     pub fn other_calls(&self) -> Vec<Line> {
         let records = self.tables.counts.entities + self.tables.counts.edges;
         let length = 8 + 12 * records as usize;
@@ -135,12 +137,7 @@ impl FullTrail {
                 15,
             ),
             self.undeclared("refusal 16's test: backward, refused 5"),
-            self.other_read("no call: read a row at a time", Goal::RowRead, read_rows),
-            self.other_read(
-                "no call: read that follows each edge to its versions",
-                Goal::None,
-                follow_edges,
-            ),
+            self.followed_edges("no call: read that follows each edge to its versions"),
         ]
     }
 
@@ -149,10 +146,11 @@ impl FullTrail {
         let answer = library::kept_log(&self.tables, &mut out);
         assert_eq!(answer, self.peer.kept_log(&mut of_peer));
         assert!(answer.refusal == refusal && out == of_peer);
-        let [library, peer, floor] = medians([
+        let [library, peer, floor, row_floor] = medians([
             Box::new(|| repeated(|| library::kept_log(&self.tables, &mut out))),
             Box::new(|| repeated(|| self.peer.kept_log(&mut of_peer))),
             Box::new(|| repeated(|| read_tables(&self.tables))),
+            Box::new(|| repeated(|| read_rows(&self.tables))),
         ]);
         Line {
             name: name.to_string(),
@@ -160,22 +158,26 @@ impl FullTrail {
             library,
             peer: (refusal == 0).then_some(peer),
             floor,
+            row_floor: Some(row_floor),
             events: None,
         }
     }
 
-    /// Another read of the tables, in the library's place.
-    fn other_read(&self, name: &str, goal: Goal, read: fn(&Tables) -> u32) -> Line {
-        let [other, floor] = medians([
-            Box::new(|| repeated(|| read(&self.tables))),
+    /// A read that no test of the tables can do without, in the library's
+    /// place.
+    fn followed_edges(&self, name: &str) -> Line {
+        let [library, floor, row_floor] = medians([
+            Box::new(|| repeated(|| follow_edges(&self.tables))),
             Box::new(|| repeated(|| read_tables(&self.tables))),
+            Box::new(|| repeated(|| read_rows(&self.tables))),
         ]);
         Line {
             name: name.to_string(),
-            goal,
-            library: other,
+            goal: Goal::None,
+            library,
             peer: None,
             floor,
+            row_floor: Some(row_floor),
             events: None,
         }
     }
@@ -188,9 +190,10 @@ impl FullTrail {
             time: 0,
         };
         assert_eq!(trace.on_library(&self.tables, &mut buffers), [5, 0, 0]);
-        let [library, floor] = medians([
+        let [library, floor, row_floor] = medians([
             Box::new(|| repeated(|| trace.on_library(&self.tables, &mut buffers))),
             Box::new(|| repeated(|| read_tables(&self.tables))),
+            Box::new(|| repeated(|| read_rows(&self.tables))),
         ]);
         Line {
             name: name.to_string(),
@@ -198,6 +201,7 @@ impl FullTrail {
             library,
             peer: None,
             floor,
+            row_floor: Some(row_floor),
             events: None,
         }
     }

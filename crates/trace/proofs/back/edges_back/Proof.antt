@@ -25,9 +25,6 @@ sub-k c = search needs
 edge-back-requires : tie.Need-edge-back-requires Inv-loop μ-loop
 edge-back-requires c κs = search needs
 
-either-requires : tie.Need-either-requires Inv-loop μ-loop
-either-requires c κs = search needs
-
 loop-less : tie.Need-loop-less Inv-loop μ-loop
 loop-less c = search needs
 
@@ -49,7 +46,6 @@ edges-back-spec =
     loop-holds
     sub-k
     edge-back-requires
-    either-requires
     loop-less
     loop-again
     same-length

@@ -10,9 +10,6 @@ source-back-requires c κs = search needs
 step-back-requires : tie.Need-step-back-requires
 step-back-requires c κs = search needs
 
-either-requires : tie.Need-either-requires
-either-requires c κs = search needs
-
 same-length : tie.Need-same-length
 same-length c = search needs
 
@@ -22,4 +19,4 @@ returns c = search edge-back
 pub enter-back-spec : {M : Type 1} → statement M
 enter-back-spec =
     tie.close
-    (tie.spec source-back-requires step-back-requires either-requires same-length returns)
+    (tie.spec source-back-requires step-back-requires same-length returns)

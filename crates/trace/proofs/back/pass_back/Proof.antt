@@ -10,9 +10,6 @@ edges-back-requires c κs = search needs
 steps-back-requires : tie.Need-steps-back-requires
 steps-back-requires c κs = search needs
 
-either-requires : tie.Need-either-requires
-either-requires c κs = search needs
-
 same-length : tie.Need-same-length
 same-length c = search needs
 
@@ -22,4 +19,4 @@ returns c = search pass-back
 pub pass-back-spec : {M : Type 1} → statement M
 pass-back-spec =
     tie.close
-    (tie.spec edges-back-requires steps-back-requires either-requires same-length returns)
+    (tie.spec edges-back-requires steps-back-requires same-length returns)

@@ -25,9 +25,6 @@ sub-v c = search needs
 step-back-requires : tie.Need-step-back-requires Inv-loop μ-loop
 step-back-requires c κs = search needs
 
-either-requires : tie.Need-either-requires Inv-loop μ-loop
-either-requires c κs = search needs
-
 loop-less : tie.Need-loop-less Inv-loop μ-loop
 loop-less c = search needs
 
@@ -49,7 +46,6 @@ steps-back-spec =
     loop-holds
     sub-v
     step-back-requires
-    either-requires
     loop-less
     loop-again
     same-length

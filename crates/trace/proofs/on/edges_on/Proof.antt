@@ -23,9 +23,6 @@ loop-holds c = (omega arith, refl, search ascends-start)
 edge-on-requires : tie.Need-edge-on-requires Inv-loop μ-loop
 edge-on-requires c κs = search needs
 
-either-requires : tie.Need-either-requires Inv-loop μ-loop
-either-requires c κs = search needs
-
 add-k : tie.Need-add-k Inv-loop μ-loop
 add-k c = search needs
 
@@ -49,7 +46,6 @@ edges-on-spec =
     μ-loop
     loop-holds
     edge-on-requires
-    either-requires
     add-k
     loop-less
     loop-again

@@ -13,9 +13,6 @@ follow-arc-requires c κs = search needs
 step-on-requires : tie.Need-step-on-requires
 step-on-requires c κs = search needs
 
-either-requires : tie.Need-either-requires
-either-requires c κs = search needs
-
 same-length : tie.Need-same-length
 same-length c = search needs
 
@@ -29,6 +26,5 @@ enter-on-spec =
     edge-from-requires
     follow-arc-requires
     step-on-requires
-    either-requires
     same-length
     returns)

@@ -10,9 +10,6 @@ edges-on-requires c κs = search needs
 steps-on-requires : tie.Need-steps-on-requires
 steps-on-requires c κs = search needs
 
-either-requires : tie.Need-either-requires
-either-requires c κs = search needs
-
 same-length : tie.Need-same-length
 same-length c = search needs
 
@@ -21,4 +18,4 @@ returns c = search pass-on
 
 pub pass-on-spec : {M : Type 1} → statement M
 pass-on-spec =
-    tie.close (tie.spec edges-on-requires steps-on-requires either-requires same-length returns)
+    tie.close (tie.spec edges-on-requires steps-on-requires same-length returns)

@@ -23,9 +23,6 @@ loop-holds c = (omega arith, refl, search ascends-start)
 step-on-requires : tie.Need-step-on-requires Inv-loop μ-loop
 step-on-requires c κs = search needs
 
-either-requires : tie.Need-either-requires Inv-loop μ-loop
-either-requires c κs = search needs
-
 add-v : tie.Need-add-v Inv-loop μ-loop
 add-v c = search needs
 
@@ -49,7 +46,6 @@ steps-on-spec =
     μ-loop
     loop-holds
     step-on-requires
-    either-requires
     add-v
     loop-less
     loop-again

@@ -1,8 +1,8 @@
--- `trace::fields::entity_latest` meets its contract. The field is one read at its place in the row.
+-- `rows::fields::entity_latest` meets its contract. The field is one read at its place in the row.
 use borrow.Author.Needs.{needs}
 use Rattle.rows.specs.Rows.{entityAt}
-use Rattle.trace.proofs.fields.entity_latest.Statement.{statement}
-use Rattle.trace.proofs.fields.entity_latest.Tie as tie
+use Rattle.rows.proofs.fields.entity_latest.Statement.{statement}
+use Rattle.rows.proofs.fields.entity_latest.Tie as tie
 
 cast-at : tie.Need-cast-at
 cast-at c = search needs

@@ -1,8 +1,8 @@
--- A version's entity is the first number of its row.
+-- `rows::fields::version_entity` meets its contract. The field is one read at its place in the row.
 use borrow.Author.Needs.{needs}
-use Rattle.rows.specs.Rows.{versionAt, edgeAt}
-use Rattle.growth.proofs.index.version_entity.Statement.{statement}
-use Rattle.growth.proofs.index.version_entity.Tie as tie
+use Rattle.rows.specs.Rows.{versionAt}
+use Rattle.rows.proofs.fields.version_entity.Statement.{statement}
+use Rattle.rows.proofs.fields.version_entity.Tie as tie
 
 cast-at : tie.Need-cast-at
 cast-at c = search needs
@@ -14,7 +14,7 @@ at-requires : tie.Need-at-requires
 at-requires c κs = search needs
 
 returns : tie.Need-returns
-unfolding versionAt edgeAt
+unfolding versionAt
 returns c = cc
 
 pub version-entity-spec : {M : Type 1} → statement M
