@@ -1,4 +1,4 @@
-# example: lists the worked trail.  test: every proof from nothing, and every test.  bench: ratios to its peers.
+# example: lists the worked trail.  test: all proofs from nothing, must-fail edits, programs, C and Rust tests.  bench: ratios to its peers.
 .PHONY: example test bench
 
 example:

@@ -7,7 +7,7 @@
  * through the pointer. No call keeps a pointer, allocates memory or touches anything else, and no call fails to return.
  *
  * Link with libtrail.a, which asks of the C library only memset; the calls follow the C calling convention of x86-64 Linux.
- * slt_batch needs 1.4 MB of stack, the other calls 1 kB.
+ * slt_batch needs 1.6 MB of stack, the other calls 0.14 MB.
  */
 #ifndef TRAIL_H
 #define TRAIL_H
@@ -76,7 +76,7 @@ enum slt_refusal {
     SLT_ACCEPTED_FULL = 13,    /* SLT_MOST_ACCEPTED events are accepted */
     SLT_BUFFER_SHORT = 14,     /* work buffer shorter than the versions, or mark buffer than the entities */
     SLT_OUTPUT_SHORT = 15,     /* output shorter than the kept log */
-    SLT_UNSOUND = 16           /* the counts and tables are not a trail */
+    SLT_UNSOUND = 16           /* the counts and tables are not sound: crates/rules/specs/Sound.antt */
 };
 
 /* `refusal` is one of slt_refusal in each answer. */
@@ -113,8 +113,8 @@ typedef struct slt_log_answer {
  * Refused with 16, 1 or 2 it takes nothing in and writes nothing. Refused at a record, it leaves the counts and the tables as
  * the records before that one made them, and `taken` says how many they are. Not refused, it has taken all of them in.
  *
- * It needs 1.4 MB of stack, refused or not: 1,311,012 bytes were measured, nearly all of them the index of the edges, which is in
- * local arrays of a fixed length. On a thread with less it ends in a fault at the guard page.
+ * It needs 1.6 MB of stack, refused or not, for local arrays of a fixed length: 1,441,792 bytes for the index of the edges and
+ * 135,168 for the test of the tables. On a thread with less it ends in a fault at the guard page.
  */
 slt_batch_answer slt_batch(
     slt_counts *counts,
@@ -143,7 +143,8 @@ slt_backward_answer slt_backward(
 /*
  * The forward trace of an entity at a time. The intake is the greatest time, at or before the given one, of an edge that enters
  * the entity's start version, else that version's start. In a trail that batches grew from a fresh one, it is the time of the
- * entity's latest kept intake, 0 if there is none, and the marked entities are those reached by the events after that.
+ * last kept event into the entity at or before the given time, 0 if there is none, and the marked entities are those with a
+ * causal path from the entity through events accepted after that one, itself among them.
  *
  * Refusals and buffers as for slt_backward; refused, the intake is 0 too.
  */

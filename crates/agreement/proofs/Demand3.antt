@@ -2,7 +2,7 @@
 use Prim.Native.Nat.{ℕ, _<_}
 use native.Mathlib.Omega.{arith}
 use mathlib.Core.Path.{_≡_, refl, sym, _∙_, ap, subst}
-use mathlib.Core.Logic.{_⊎_, inl, inr, _↔_}
+use mathlib.Core.Logic.{_⊎_, inl, inr, _↔_, Iff·trans}
 use mathlib.Core.Bool.{Bool, true, false, not, cond}
 use mathlib.Core.List.{List}
 use lib.ListN.{length, getD, drop, List·getD-append}
@@ -22,20 +22,19 @@ use Rattle.rules.specs.Paths.{PathBy, PathAfter}
 use Rattle.rules.specs.History.{accepted, Reached, IntakeTime}
 use Rattle.rules.specs.Start.{startOf}
 use Rattle.rules.specs.Marks.{ones, overlaid}
-use Rattle.rules.specs.Batch.{unless}
 use Rattle.rules.specs.Backward.{backwardWork, backwardEntities, traceChecks, BackwardTrace, backwardOf}
 use Rattle.rules.specs.Forward.{forwardWork, forwardEntities, forwardIntake, ForwardTrace, forwardOf}
 use Rattle.rules.specs.Calls.{heldAfter, plainAfter}
-use Rattle.closure.specs.Arcs.{Bits}
+use Rattle.closure.specs.Arcs.{Marked, Bits}
 use Rattle.closure.proofs.Start.{start-in}
 use Rattle.closure.proofs.StartVersion.{startOf-is}
 use Rattle.closure.proofs.Forward.{forwardMarks-in}
 use Rattle.closure.proofs.Traces.{backward-marks, forward-marks, length-backwardEntities, length-forwardEntities, bits-backwardEntities, bits-forwardEntities}
 use Rattle.causality.proofs.Theorem.{claims}
-use Rattle.agreement.specs.Demand3.{Marked, RefusedRightly, Counted, BackwardAgrees, ForwardAgrees, Demand3}
+use Rattle.agreement.specs.Demand3.{RefusedRightly, Counted, BackwardAgrees, ForwardAgrees, Demand3}
 use Rattle.agreement.proofs.Plain.{Fine, taken-fine}
 use Rattle.agreement.proofs.Matching.{Matches, matches, lent-sound}
-use Rattle.agreement.proofs.Held.{Known, known}
+use Rattle.agreement.proofs.Held.{marked-some, Known, known}
 
 -- The checks of a trace, where the tables are sound
 
@@ -83,19 +82,13 @@ module _ (U : Trail) (rs : List Record) (k : Known U (worked rs .counts .entitie
 
   back-iff : (v t : ℕ) → v < U .counts .entities → (x : ℕ) → x < n → getD (backwardEntities U v t) x 0 ≡ 1 ↔ PathBy (accepted (itemsOf rs)) t x v
   back-iff v t h x i =
-      let a = backward-marks U (k .rows) v t x h (omega (arith, k .entities)) in
-      let d = k .document01 .backward v t (startOf U v t) x h (startOf-is U (k .rows) (k .few) v t h) in (
-        λ q. let z = a .0 q in d .0 (record { version = z .0; marked = z .1; owner = z .2 }),
-        λ p. let z = d .1 p in a .1 (z .version, z .marked, z .owner),
-      )
+      Iff·trans (backward-marks U (k .rows) v t x h (omega (arith, k .entities)))
+      (Iff·trans marked-some (k .document01 .backward v t (startOf U v t) x h (startOf-is U (k .rows) (k .few) v t h)))
 
   forth-iff : (u t : ℕ) → u < U .counts .entities → (x : ℕ) → x < n → getD (forwardEntities U u t) x 0 ≡ 1 ↔ Reached u t (itemsOf rs) x
   forth-iff u t h x i =
-      let a = forward-marks U (k .rows) u t x h (omega (arith, k .entities)) in
-      let d = k .document01 .forward u t (startOf U u t) x h (startOf-is U (k .rows) (k .few) u t h) in (
-        λ q. let z = a .0 q in d .0 (record { version = z .0; marked = z .1; owner = z .2 }),
-        λ p. let z = d .1 p in a .1 (z .version, z .marked, z .owner),
-      )
+      Iff·trans (forward-marks U (k .rows) u t x h (omega (arith, k .entities)))
+      (Iff·trans marked-some (k .document01 .forward u t (startOf U u t) x h (startOf-is U (k .rows) (k .few) u t h)))
 
   intake-is : (u t : ℕ) → u < U .counts .entities → IntakeTime u t (itemsOf rs) (forwardIntake U u t)
   unfolding forwardIntake
@@ -128,16 +121,11 @@ module _ (c : Counts) (t : Tables) (v time : ℕ) (work marks : List ℕ) where
 
   backward-number : backwardOf c t v time work marks .answer .refusal ≡ numberOf checkedOf
   unfolding backwardOf
-  backward-number = go checkedOf
+  backward-number = go checkedOf refl
     where
-      go : (x : Checked) → unless {A = BackwardTrace} x (record { answer = record { refusal = numberOf x; count = 0 }; work = work; marks = marks })
-          (record {
-            answer = record { refusal = 0; count = ones (backwardEntities (trailOf c t) v time) };
-            work = overlaid (backwardWork (trailOf c t) v time) work;
-            marks = overlaid (backwardEntities (trailOf c t) v time) marks;
-          }) .answer .refusal ≡ numberOf x
-      go Passed = refl
-      go (Refused r) = refl
+      go : (x : Checked) → checkedOf ≡ x → backwardOf c t v time work marks .answer .refusal ≡ numberOf x
+      go Passed h = rw h
+      go (Refused r) h = rw h
 
   forward-answered : ForwardTrace
   forward-answered = record {
@@ -152,16 +140,11 @@ module _ (c : Counts) (t : Tables) (v time : ℕ) (work marks : List ℕ) where
 
   forward-number : forwardOf c t v time work marks .answer .refusal ≡ numberOf checkedOf
   unfolding forwardOf
-  forward-number = go checkedOf
+  forward-number = go checkedOf refl
     where
-      go : (x : Checked) → unless {A = ForwardTrace} x (record { answer = record { refusal = numberOf x; count = 0; intake = 0 }; work = work; marks = marks })
-          (record {
-            answer = record { refusal = 0; count = ones (forwardEntities (trailOf c t) v time); intake = forwardIntake (trailOf c t) v time };
-            work = overlaid (forwardWork (trailOf c t) v time) work;
-            marks = overlaid (forwardEntities (trailOf c t) v time) marks;
-          }) .answer .refusal ≡ numberOf x
-      go Passed = refl
-      go (Refused r) = refl
+      go : (x : Checked) → checkedOf ≡ x → forwardOf c t v time work marks .answer .refusal ≡ numberOf x
+      go Passed h = rw h
+      go (Refused r) h = rw h
 
   -- a trace that is not refused passed its checks
   not-refused : (k : Checked) → TraceChecked c v k → numberOf k ≡ 0 → (k ≡ Passed) × (v < c .entities)

@@ -5,33 +5,35 @@ use native.Mathlib.Nat.{eq-or-lt-of-le}
 use native.Mathlib.Numerals.{add-one}
 use mathlib.Core.Path.{_≡_, refl, sym, _∙_, ap}
 use mathlib.Core.Logic.{inl, inr, ⊎-elim}
-use mathlib.Core.Bool.{Bool, true, false, _&&_, _||_, cond}
+use mathlib.Mathlib.Data.Bool.Basic.{or-eq-false-eq-eq-false-and-eq-false}
+use mathlib.Core.Bool.{Bool, true, false, cond}
 use borrow.Author.Tests.{eqb-true, eqb-false}
 use Rattle.rows.specs.declared.EdgeNo.{EdgeNo}
+use Rattle.rows.specs.declared.EntityRow.{EntityRow}
 use Rattle.rows.specs.declared.VersionRow.{VersionRow}
 use Rattle.rows.specs.declared.EdgeRow.{EdgeRow}
 use Rattle.record.specs.declared.Declaration.{Declaration}
 use Rattle.record.specs.declared.Event.{Event}
 use Rattle.rules.specs.declared.Found.{Found}
 use Rattle.rules.specs.declared.Found.the-variants.{At, Nothing}
+use Rattle.rules.specs.declared.Decision.{Decision}
 use Rattle.rules.specs.declared.Decision.the-variants.{Repeat, Widen}
-use Rattle.rules.specs.Trail.{Trail, none, latestOf}
+use Rattle.rules.specs.Trail.{Capacity, Trail, none, latestOf}
 use Rattle.rules.specs.Decide.{edgeNo, goesTo, newestTo, leaves, folds, repeatOf, gives, decide, decisionOf}
 use Rattle.rules.specs.Record.{declared, repeated, widened, renewed}
 use Rattle.rules.specs.PlainList.{put, changed}
 use Rattle.rules.specs.Forward.{ForwardMarks}
-use Rattle.soundness.proofs.Put.{put-same, put-other, put-keeps}
-use Rattle.causality.specs.Working.{Leads, Unused, Same, Declares, Enters}
+use Rattle.soundness.specs.Taken.{EventTaken}
+use Rattle.soundness.proofs.All.{and-parts}
+use Rattle.soundness.proofs.Put.{put-same, put-other}
+use Rattle.soundness.proofs.Extends.{Extends}
+use Rattle.soundness.proofs.Declared as by-declaration
+use Rattle.soundness.proofs.Repeated.{repeated-extends}
+use Rattle.soundness.proofs.Widened.{widened-extends}
+use Rattle.soundness.proofs.Renewed as by-renewal
+use Rattle.causality.specs.Working.{Leads, Unused, Keeps, Same, Declares, Enters}
 
 -- What the searches find
-
-both : (a b : Bool) → (a && b) ≡ true → (a ≡ true) × (b ≡ true)
-both true b q = (refl, q)
-both false b q = absurd (let z : _≡_ {A = ℕ} 0 1 = cc in omega arith)
-
-neither : (a b : Bool) → (a || b) ≡ false → (a ≡ false) × (b ≡ false)
-neither true b q = absurd (let z : _≡_ {A = ℕ} 0 1 = cc in omega arith)
-neither false b q = (refl, q)
 
 -- edge k goes from version f to a version of entity x
 abbrev pub Goes : (ℕ → EdgeRow) → (ℕ → VersionRow) → ℕ → ℕ → ℕ → Type 0
@@ -39,7 +41,7 @@ Goes E W f x k = (E k .from .0 ≡ f) × (W (E k .to .0) .entity .0 ≡ x)
 
 goesTo-true : (E : ℕ → EdgeRow) (W : ℕ → VersionRow) (f x k : ℕ) → goesTo E W f x k ≡ true → Goes E W f x k
 unfolding goesTo
-goesTo-true E W f x k q = let z = both _ _ q in (eqb-true _ _ (z .0), eqb-true _ _ (z .1))
+goesTo-true E W f x k q = let z = and-parts _ _ q in (eqb-true _ _ (z .0), eqb-true _ _ (z .1))
 
 pub newestTo-found : (E : ℕ → EdgeRow) (W : ℕ → VersionRow) (f x n : ℕ) (k : EdgeNo) → newestTo E W f x n ≡ At k → (k .0 < n) × Goes E W f x (k .0)
 unfolding newestTo
@@ -56,7 +58,7 @@ pub leaves-none : (E : ℕ → EdgeRow) (f n : ℕ) → leaves E f n ≡ false �
 unfolding leaves
 leaves-none E f zero h k l p = omega arith
 leaves-none E f (suc n) h k l p =
-    let z = neither _ _ h in
+    let z = or-eq-false-eq-eq-false-and-eq-false _ _ .0 h in
     ⊎-elim (λ e. eqb-false _ _ (z .0) (ap (λ j. E j .from .0) (sym e) ∙ p)) (λ i. leaves-none E f n (z .1) k i p) (eq-or-lt-of-le (let m : k ≤ n = omega arith in m))
 
 module _ (T : Trail) (e : Event) where
@@ -98,47 +100,33 @@ module _ (T : Trail) (e : Event) where
 
 -- What each record does to the rows
 
+pub keeps : {T T′ : Trail} → Extends T T′ → Keeps T T′
+keeps x = record {
+  owner-old = x .owner-same;
+  start-old = x .start-same;
+  previous-old = x .previous-same;
+  from-old = λ k l. ap (λ (r : EdgeRow). r .from .0) (x .edge-same k l);
+  to-old = λ k l. ap (λ (r : EdgeRow). r .to .0) (x .edge-same k l);
+  kind-old = λ k l. ap (λ (r : EdgeRow). r .kind) (x .edge-same k l);
+  time-old = λ k l. ap (λ (r : EdgeRow). r .time) (x .edge-same k l);
+}
+
 pub declares : (T : Trail) (d : Declaration) → Declares T (changed T (declared (T .counts) d))
 declares T d = record {
   ne-is = add-one _;
   nv-is = add-one _;
   nd-is = refl;
-  latest-new = ap (λ r. r .latest .0) (put-same (T .entity) _ _);
-  latest-old = λ y l. ap (λ r. r .latest .0) (put-other (T .entity) _ _ y (λ q. omega arith));
-  owner-new = ap (λ r. r .entity .0) (put-same (T .version) _ _);
-  start-new = ap (λ r. r .start) (put-same (T .version) _ _);
-  previous-new = ap (λ r. r .previous .0) (put-same (T .version) _ _);
-  old = record {
-    owner-old = λ a l. ap (λ r. r .entity .0) (put-other (T .version) _ _ a (λ q. omega arith));
-    start-old = λ a l. ap (λ r. r .start) (put-other (T .version) _ _ a (λ q. omega arith));
-    previous-old = λ a l. ap (λ r. r .previous .0) (put-other (T .version) _ _ a (λ q. omega arith));
-    from-old = λ k l. refl;
-    to-old = λ k l. refl;
-    kind-old = λ k l. refl;
-    time-old = λ k l. refl;
-  };
+  latest-new = by-declaration.new-latest T d;
+  latest-old = λ y l. ap (λ (r : EntityRow). r .latest .0) (by-declaration.other-entity T d y l);
+  owner-new = by-declaration.new-owner T d;
+  start-new = ap (λ (r : VersionRow). r .start) (by-declaration.new-version T d);
+  previous-new = ap (λ (r : VersionRow). r .previous .0) (by-declaration.new-version T d);
+  old = keeps (by-declaration.declared-extends T d);
 }
 
-pub repeats : (T : Trail) (e : Event) → Same T (changed T (repeated T e))
-repeats T e = record {
-  ne-is = refl;
-  nv-is = refl;
-  nd-is = refl;
-  latest-old = λ y l. refl;
-  old = record {
-    owner-old = λ a l. refl;
-    start-old = λ a l. refl;
-    previous-old = λ a l. refl;
-    from-old = λ k l. refl;
-    to-old = λ k l. refl;
-    kind-old = λ k l. refl;
-    time-old = λ k l. refl;
-  };
-}
-
-module _ (T : Trail) (e : Event) where
-  old-edge : (r : EdgeRow) (k : ℕ) → k < T .counts .edges → put (T .edge) (T .counts .edges) r k ≡ T .edge k
-  old-edge r k l = put-other (T .edge) _ r k (λ q. omega arith)
+module _ (cap : Capacity) (T : Trail) (e : Event) (d : Decision) (p : EventTaken cap T e d) where
+  pub repeats : Same T (changed T (repeated T e))
+  repeats = record { ne-is = refl; nv-is = refl; nd-is = refl; latest-old = λ y l. refl; old = keeps (repeated-extends cap T e d p) }
 
   pub widens : decisionOf T e ≡ Widen → Enters T (changed T (widened T e)) e (latestOf T (e .target .0))
   widens h = record {
@@ -151,15 +139,7 @@ module _ (T : Trail) (e : Event) where
     kind-new = ap (λ (r : EdgeRow). r .kind) (put-same (T .edge) _ _);
     time-new = ap (λ (r : EdgeRow). r .time) (put-same (T .edge) _ _);
     shape = inl (record { is = refl; nv-is = refl; unused = widen-unused T e h });
-    old = record {
-      owner-old = λ a l. put-keeps (T .version) _ _ (λ r. r .entity .0) refl a;
-      start-old = λ a l. put-keeps (T .version) _ _ (λ r. r .start) refl a;
-      previous-old = λ a l. put-keeps (T .version) _ _ (λ r. r .previous .0) refl a;
-      from-old = λ k l. ap (λ (r : EdgeRow). r .from .0) (old-edge _ k l);
-      to-old = λ k l. ap (λ (r : EdgeRow). r .to .0) (old-edge _ k l);
-      kind-old = λ k l. ap (λ (r : EdgeRow). r .kind) (old-edge _ k l);
-      time-old = λ k l. ap (λ (r : EdgeRow). r .time) (old-edge _ k l);
-    };
+    old = keeps (widened-extends cap T e d p);
   }
 
   -- the old latest version is not numbered as none
@@ -167,7 +147,7 @@ module _ (T : Trail) (e : Event) where
   renews few = record {
     ne-is = refl;
     nd-is = add-one _;
-    latest-target = ap (λ r. r .latest .0) (put-same (T .entity) _ _);
+    latest-target = by-renewal.new-latest cap T e d p;
     latest-other = λ y l n. ap (λ r. r .latest .0) (put-other (T .entity) _ _ y n);
     from-new = ap (λ (r : EdgeRow). r .from .0) (put-same (T .edge) _ _);
     to-new = ap (λ (r : EdgeRow). r .to .0) (put-same (T .edge) _ _);
@@ -176,18 +156,10 @@ module _ (T : Trail) (e : Event) where
     shape = inr (record {
       is = refl;
       nv-is = add-one _;
-      owner = ap (λ r. r .entity .0) (put-same (T .version) _ _);
-      start = ap (λ r. r .start) (put-same (T .version) _ _);
-      some = λ q. few (sym (ap (λ r. r .previous .0) (put-same (T .version) _ _)) ∙ q);
-      previous = ap (λ r. r .previous .0) (put-same (T .version) _ _);
+      owner = by-renewal.new-owner cap T e d p;
+      start = by-renewal.new-start cap T e d p;
+      some = λ q. few (sym (by-renewal.new-previous cap T e d p) ∙ q);
+      previous = by-renewal.new-previous cap T e d p;
     });
-    old = record {
-      owner-old = λ a l. ap (λ r. r .entity .0) (put-other (T .version) _ _ a (λ q. omega arith));
-      start-old = λ a l. ap (λ r. r .start) (put-other (T .version) _ _ a (λ q. omega arith));
-      previous-old = λ a l. ap (λ r. r .previous .0) (put-other (T .version) _ _ a (λ q. omega arith));
-      from-old = λ k l. ap (λ (r : EdgeRow). r .from .0) (old-edge _ k l);
-      to-old = λ k l. ap (λ (r : EdgeRow). r .to .0) (old-edge _ k l);
-      kind-old = λ k l. ap (λ (r : EdgeRow). r .kind) (old-edge _ k l);
-      time-old = λ k l. ap (λ (r : EdgeRow). r .time) (old-edge _ k l);
-    };
+    old = keeps (by-renewal.renewed-extends cap T e d p);
   }

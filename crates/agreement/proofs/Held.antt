@@ -2,40 +2,38 @@
 use Prim.Native.Nat.{ℕ, _≤_}
 use native.Mathlib.Omega.{arith}
 use mathlib.Core.Path.{_≡_, sym, ap}
+use mathlib.Core.Logic.{_↔_}
 use mathlib.Core.List.{List}
+use Rattle.rows.specs.declared.Counts.{Counts}
 use Rattle.rows.specs.declared.EntityRow.{EntityRow}
-use Rattle.rows.specs.declared.VersionRow.{VersionRow}
-use Rattle.rows.specs.declared.EdgeRow.{EdgeRow}
 use Rattle.record.specs.declared.Record.{Record}
-use Rattle.rules.specs.Trail.{Tables, Trail, trailOf, none}
+use Rattle.rules.specs.Trail.{Tables, Trail, trailOf, none, ownerOf}
 use Rattle.rules.specs.PlainList.{worked, itemsOf}
 use Rattle.rules.specs.History.{Item}
 use Rattle.rules.specs.Calls.{Held, Lent}
 use Rattle.soundness.specs.Facts.{RowFacts}
 use Rattle.closure.specs.Same.{SameRows}
-use Rattle.causality.specs.Working.{Same, Grown}
+use Rattle.closure.proofs.SameFacts.{same-extends}
+use Rattle.causality.specs.Working.{Marked, Same, Grown}
 use Rattle.causality.specs.Statements.{Faithful, Document01}
 use Rattle.causality.proofs.Same.{grown-same}
 use Rattle.causality.proofs.Theorem.{claims}
+use Rattle.agreement.proofs.Growing.{keeps}
 use Rattle.agreement.proofs.Plain.{taken-fine}
 use Rattle.agreement.proofs.Matching.{Matches, lent-alike, lent-rows}
 
-same : {T U : Trail} → SameRows T U → Same T U
-same s = record {
+same : {T U : Trail} → SameRows T U → T .counts .last ≡ U .counts .last → Same T U
+same s q = record {
   ne-is = sym (s .entities);
   nv-is = sym (s .versions);
   nd-is = sym (s .edges);
   latest-old = λ y l. ap (λ (r : EntityRow). r .latest .0) (sym (s .entity-rows y l));
-  old = record {
-    owner-old = λ a l. ap (λ (r : VersionRow). r .entity .0) (sym (s .version-rows a l));
-    start-old = λ a l. ap (λ (r : VersionRow). r .start) (sym (s .version-rows a l));
-    previous-old = λ a l. ap (λ (r : VersionRow). r .previous .0) (sym (s .version-rows a l));
-    from-old = λ k l. ap (λ (r : EdgeRow). r .from .0) (sym (s .edge-rows k l));
-    to-old = λ k l. ap (λ (r : EdgeRow). r .to .0) (sym (s .edge-rows k l));
-    kind-old = λ k l. ap (λ (r : EdgeRow). r .kind) (sym (s .edge-rows k l));
-    time-old = λ k l. ap (λ (r : EdgeRow). r .time) (sym (s .edge-rows k l));
-  };
+  old = keeps (same-extends s q);
 }
+
+-- a marked version of an entity, as the computed marks and as the trace theorem has it
+pub marked-some : {T : Trail} {M : ℕ → Type 0} {x : ℕ} → ((w : ℕ) × M w × (ownerOf T w ≡ x)) ↔ Marked T M x
+marked-some = (λ z. record { version = z .0; marked = z .1; owner = z .2 }, λ m. (m .version, m .marked, m .owner))
 
 pub record Known (U : Trail) (n : ℕ) (hs : List Item) : Type 0 where
   pub rows : RowFacts U
@@ -49,7 +47,7 @@ pub known : (h : Held) (rs : List Record) → Matches h rs → (t : Tables) → 
 known h rs m t l =
     let f = taken-fine (m .taken) in
     let a = lent-alike h rs m t l in
-    let g = grown-same (f .grown) (same (a .rows)) in
+    let g = grown-same (f .grown) (same (a .rows) (ap (λ (c : Counts). c .last) (a .counts))) in
     record {
       rows = lent-rows h rs m t l;
       few = omega (arith, f .counted .versions-in, a .rows .versions);

@@ -1,5 +1,5 @@
 -- After any list of calls the counts and rows in use are those that the plain list gives when worked from none.
-use Prim.Native.Nat.{ℕ, _+_, _*_, _≤_, min}
+use Prim.Native.Nat.{ℕ, _+_, _*_, _≤_}
 use native.Mathlib.Omega.{arith}
 use mathlib.Core.Path.{_≡_, refl, sym, _∙_, ap, subst}
 use mathlib.Core.Bool.{true}
@@ -11,6 +11,7 @@ use Rattle.refusals.specs.Refusals.{firstOf}
 use Rattle.rows.specs.declared.Counts.{Counts}
 use Rattle.rows.specs.Rows.{entityWidth, versionWidth, edgeWidth}
 use Rattle.rows.specs.Capacity.{entityCapacity, versionCapacity, edgeCapacity}
+use Rattle.rows.proofs.Capacity.{entities-most, versions-most, edges-most}
 use Rattle.record.specs.declared.Record.{Record}
 use Rattle.record.specs.Header.{headerChecks}
 use Rattle.rules.specs.Trail.{Tables, Capacity, capacityOf, trailOf}
@@ -20,7 +21,7 @@ use Rattle.rules.specs.PlainList.{worked, itemsOf, added, addedBy}
 use Rattle.rules.specs.Batch.{Batched, batched, unless, contentsOf, takeIn, batchChecks, batchOf}
 use Rattle.rules.specs.Calls.{Call, batch, backward, forward, Held, heldAfter, Lent, AllLent, plainAfter}
 use Rattle.soundness.specs.Facts.{CountFacts, RowFacts}
-use Rattle.soundness.specs.Taken.{SortFits, SortsFit}
+use Rattle.soundness.specs.Taken.{SortFits, Each}
 use Rattle.soundness.proofs.Passes.{facts-sound}
 use Rattle.soundness.proofs.TableStep.{step-checked, step-capacity, step-trail, step-sound}
 use Rattle.closure.proofs.SameFacts.{rowFacts-same}
@@ -36,12 +37,8 @@ pub record Matches (h : Held) (rs : List Record) : Type 0 where
 
 -- Capacity
 
-min-le : (a b n : ℕ) → n ≤ a → n ≤ b → n ≤ min a b
-min-le a b n p q = omega arith
-
 pub capacity-within : (t : Tables) → Within (capacityOf t)
-unfolding entityCapacity versionCapacity edgeCapacity
-capacity-within t = record { entities = omega arith; versions = omega arith; edges = omega arith }
+capacity-within t = record { entities = entities-most (t .entities); versions = versions-most (t .versions); edges = edges-most (t .edges) }
 
 -- tables that hold the rows in use have the capacity for them
 room-counts : (c : Counts) (t : Tables) → CountFacts greatest c → entityWidth * c .entities ≤ length (t .entities) → versionWidth * c .versions ≤ length (t .versions)
@@ -110,7 +107,7 @@ module _ (cap : Capacity) (w : Within cap) where
           capacity = step-capacity c t r ∙ y .capacity;
         }
 
-  takeIn-ready : (c : Counts) (t : Tables) (rs : List Record) → Ready cap c t rs → (n : ℕ) (more : List Record) (ending : Checked) → SortsFit more
+  takeIn-ready : (c : Counts) (t : Tables) (rs : List Record) → Ready cap c t rs → (n : ℕ) (more : List Record) (ending : Checked) → Each SortFits more
       → Ready cap (takeIn c t n more ending .counts) (takeIn c t n more ending .tables) (added cap rs more)
   unfolding takeIn added
   takeIn-ready c t rs y n [] ending a = y

@@ -1,7 +1,7 @@
 -- A plain list whose records are taken in: its working is grown as the trace theorem asks, its rows are sound, times rise.
 use Prim.Native.Nat.{_<_}
 use native.Mathlib.Omega.{arith}
-use mathlib.Core.Path.{_≡_, refl}
+use mathlib.Core.Path.{_≡_, refl, sym, subst}
 use mathlib.Core.List.{List, _∷_}
 use Rattle.refusals.specs.declared.Checked.the-variants.{Passed}
 use Rattle.record.specs.declared.Declaration.{Declaration}
@@ -16,9 +16,10 @@ use Rattle.rules.specs.Record.{happened, refusalOf, changeOf}
 use Rattle.rules.specs.PlainList.{changed, worked, itemsOf}
 use Rattle.rules.specs.History.{Item, itemOf, accepted}
 use Rattle.soundness.specs.Facts.{CountFacts, RowFacts}
-use Rattle.soundness.specs.Taken.{DeclarationTaken, EventTaken, SortFits}
-use Rattle.soundness.proofs.Taken.{declaration-taken, event-taken}
-use Rattle.soundness.proofs.Step.{step-rows, fresh-rows, fresh-counts}
+use Rattle.soundness.specs.Taken.{EventTaken, SortFits}
+use Rattle.soundness.proofs.Taken.{event-taken}
+use Rattle.soundness.proofs.Step.{step-rows, step-counts, fresh-rows, fresh-counts}
+use Rattle.soundness.proofs.TableStep.{counts-changed}
 use Rattle.causality.specs.Working.{lastOf, Fit, Grown}
 use Rattle.causality.specs.Order.{Falling}
 use Rattle.causality.proofs.Same.{grown-same}
@@ -34,41 +35,7 @@ pub record Fine (T : Trail) (hs : List Item) : Type 0 where
   pub falling : Falling (accepted hs)
 
 module _ (cap : Capacity) (w : Within cap) (T : Trail) (hs : List Item) (f : Fine T hs) where
-  module _ (d : Declaration) (p : DeclarationTaken cap (T .counts) d) where
-    declared-counts : CountFacts greatest (changeOf T (records.Declaration d) .counts)
-    unfolding changeOf
-    declared-counts = record {
-      entities-in = omega (arith, p .entities-left, w .entities);
-      versions-in = omega (arith, p .versions-left, w .versions);
-      edges-in = f .counted .edges-in;
-      edges-accepted = f .counted .edges-accepted;
-      accepted-most = f .counted .accepted-most;
-    }
-
   module _ (e : Event) where
-    happened-counts : (d : Decision) → EventTaken cap T e d → CountFacts greatest (happened T e d .counts)
-    happened-counts (Repeat k) p = record {
-      entities-in = f .counted .entities-in;
-      versions-in = f .counted .versions-in;
-      edges-in = f .counted .edges-in;
-      edges-accepted = omega (arith, f .counted .edges-accepted);
-      accepted-most = omega (arith, p .accepted-left);
-    }
-    happened-counts Widen p = record {
-      entities-in = f .counted .entities-in;
-      versions-in = f .counted .versions-in;
-      edges-in = omega (arith, p .edges-left refl, w .edges);
-      edges-accepted = omega (arith, f .counted .edges-accepted);
-      accepted-most = omega (arith, p .accepted-left);
-    }
-    happened-counts Renew p = record {
-      entities-in = f .counted .entities-in;
-      versions-in = omega (arith, p .versions-left refl, w .versions);
-      edges-in = omega (arith, p .edges-left refl, w .edges);
-      edges-accepted = omega (arith, f .counted .edges-accepted);
-      accepted-most = omega (arith, p .accepted-left);
-    }
-
     fit : (d : Decision) → EventTaken cap T e d → Fit T (lastOf hs) e
     fit d p = record {
       source-in = p .source-in;
@@ -82,19 +49,14 @@ module _ (cap : Capacity) (w : Within cap) (T : Trail) (hs : List Item) (f : Fin
     latest-some h q = let a = f .rows .entity (e .target .0) h .latest-in in let b = f .counted .versions-in in omega arith
 
     grown-event : (d : Decision) → decisionOf T e ≡ d → EventTaken cap T e d → Grown (changed T (happened T e d)) (itemOf d e ∷ hs)
-    grown-event (Repeat k) q p = grown-same (Grown.repeated (f .grown) e (fit (Repeat k) p) (repeat-may-drop T e k q)) (repeats T e)
-    grown-event Widen q p = Grown.entered (f .grown) e (fit Widen p) _ (widens T e q)
-    grown-event Renew q p = Grown.entered (f .grown) e (fit Renew p) _ (renews T e (latest-some (p .target-in)))
+    grown-event (Repeat k) q p = grown-same (Grown.repeated (f .grown) e (fit (Repeat k) p) (repeat-may-drop T e k q)) (repeats cap T e (Repeat k) p)
+    grown-event Widen q p = Grown.entered (f .grown) e (fit Widen p) _ (widens cap T e Widen p q)
+    grown-event Renew q p = Grown.entered (f .grown) e (fit Renew p) _ (renews cap T e Renew p (latest-some (p .target-in)))
 
     last-event : (d : Decision) → changed T (happened T e d) .counts .last ≡ lastOf (itemOf d e ∷ hs)
     last-event (Repeat k) = refl
     last-event Widen = refl
     last-event Renew = refl
-
-    counts-event : (d : Decision) → CountFacts greatest (happened T e d .counts) → CountFacts greatest (changed T (happened T e d) .counts)
-    counts-event (Repeat k) c = c
-    counts-event Widen c = c
-    counts-event Renew c = c
 
     falling-event : (d : Decision) → EventTaken cap T e d → Falling (accepted (itemOf d e ∷ hs))
     falling-event (Repeat k) p = falling-next (f .grown) (f .falling) e (omega (arith, p .later, f .last))
@@ -102,25 +64,28 @@ module _ (cap : Capacity) (w : Within cap) (T : Trail) (hs : List Item) (f : Fin
     falling-event Renew p = falling-next (f .grown) (f .falling) e (omega (arith, p .later, f .last))
 
 -- one record more
+
+counts-next : (cap : Capacity) → Within cap → (T : Trail) → CountFacts greatest (T .counts) → (r : Record) → refusalOf cap T r ≡ Passed
+    → CountFacts greatest (changed T (changeOf T r) .counts)
+counts-next cap w T g r h = subst (CountFacts greatest) (sym (counts-changed T (changeOf T r))) (step-counts cap greatest (w .entities) (w .versions) (w .edges) T g r h)
+
 fine-next : (cap : Capacity) → Within cap → (rs : List Record) → Fine (worked rs) (itemsOf rs) → (r : Record) → SortFits r
     → refusalOf cap (worked rs) r ≡ Passed → Fine (worked (r ∷ rs)) (itemsOf (r ∷ rs))
 unfolding refusalOf changeOf
-fine-next cap w rs f (records.Declaration d) s h =
-    let p = declaration-taken cap (worked rs .counts) d h in
-    record {
-      rows = step-rows cap (worked rs) (records.Declaration d) s h (f .rows);
-      counted = declared-counts cap w (worked rs) (itemsOf rs) f d p;
-      grown = Grown.declared (f .grown) (declares (worked rs) d);
-      last = f .last;
-      falling = f .falling;
-    }
+fine-next cap w rs f (records.Declaration d) s h = record {
+  rows = step-rows cap (worked rs) (records.Declaration d) s h (f .rows);
+  counted = counts-next cap w (worked rs) (f .counted) (records.Declaration d) h;
+  grown = Grown.declared (f .grown) (declares (worked rs) d);
+  last = f .last;
+  falling = f .falling;
+}
 fine-next cap w rs f (records.Event e) s h =
     let T = worked rs in
     let d = decisionOf T e in
     let p = event-taken cap T e d h in
     record {
       rows = step-rows cap T (records.Event e) s h (f .rows);
-      counted = counts-event cap w T (itemsOf rs) f e d (happened-counts cap w T (itemsOf rs) f e d p);
+      counted = counts-next cap w T (f .counted) (records.Event e) h;
       grown = grown-event cap w T (itemsOf rs) f e d refl p;
       last = last-event cap w T (itemsOf rs) f e d;
       falling = falling-event cap w T (itemsOf rs) f e d p;

@@ -27,9 +27,9 @@ use Rattle.rules.specs.KeptLog.{KeptLog, logBytes, logLength, logChecks, keptLo
 use Rattle.rules.specs.Calls.{Held, held, heldAfter, Lent, plainAfter}
 use Rattle.soundness.specs.Facts.{CountFacts}
 use Rattle.soundness.proofs.Facts.{sound-counts}
+use Rattle.soundness.proofs.Tests.{sort-low}
 use Rattle.causality.specs.Statements.{Logged}
 use Rattle.kept_log.specs.LogRecords.{logRecords, wholly}
-use Rattle.kept_log.proofs.Same.{sort-low}
 use Rattle.kept_log.proofs.LogRecords.{length-logRecords}
 use Rattle.kept_log.proofs.ReadBack.{log-answer, log-taken-header, log-taken-contents}
 use Rattle.agreement.specs.RoundTrip.{Room, SameTrail, TakenAgain, RoundTrip}

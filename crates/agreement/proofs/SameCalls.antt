@@ -5,12 +5,10 @@ use mathlib.Core.Bool.{true, not}
 use mathlib.Core.List.{List, [], _∷_, _++_}
 use lib.ListN.{length}
 use lib.Dec.{leb, ltb}
-use borrow.Author.Tests.{leb-false}
 use Rattle.refusals.specs.declared.Refusal.the-variants.{Unsound, Undeclared, BufferShort, OutputShort}
 use Rattle.refusals.specs.declared.Checked.{Checked}
 use Rattle.refusals.specs.declared.Checked.the-variants.{Passed, Refused}
 use Rattle.refusals.specs.Refusals.{check, firstOf, numberOf}
-use Rattle.refusals.proofs.Checks.{passed-all-false}
 use Rattle.rows.specs.declared.Counts.{Counts}
 use Rattle.rows.specs.Rows.{entityNo}
 use Rattle.record.specs.declared.Record.the-variants as records
@@ -23,6 +21,7 @@ use Rattle.rules.specs.Marks.{ones, overlaid}
 use Rattle.rules.specs.Backward.{traceChecks, BackwardTrace, backwardOf}
 use Rattle.rules.specs.Forward.{ForwardTrace, forwardOf}
 use Rattle.rules.specs.KeptLog.{declarationOf, eventOf, encodedBelow, logBytes, logLength, logChecks, keptLogOf}
+use Rattle.closure.proofs.Traces.{passed-entity}
 use Rattle.kept_log.proofs.Same.{encodedBelow-same}
 use Rattle.agreement.specs.RoundTrip.{SameTrail, SameCalls}
 
@@ -50,35 +49,31 @@ module _ (c : Counts) (t : Tables) (d : Counts) (u : Tables) (s : SameTrail (tra
         ∷ []
         )
 
-    declared : firstOf (traceChecks c t x work marks) ≡ Passed → x < c .entities
-    unfolding traceChecks
-    declared h = leb-false _ _ (passed-all-false _ h .1 .0)
-
     backward-answer : backwardOf d u x time work marks .answer ≡ backwardOf c t x time work marks .answer
     unfolding backwardOf
     backward-answer =
         rw checked-same
         (unless-same (λ (b : BackwardTrace). b .answer) (firstOf (traceChecks c t x work marks)) _ _ _
-        (λ h. λ j. record { refusal = 0; count = ones (s .backward x time (declared h) j) }))
+        (λ h. λ j. record { refusal = 0; count = ones (s .backward x time (passed-entity c t x work marks h) j) }))
 
     backward-marks : backwardOf d u x time work marks .marks ≡ backwardOf c t x time work marks .marks
     unfolding backwardOf
     backward-marks =
         rw checked-same
-        (unless-same (λ (b : BackwardTrace). b .marks) (firstOf (traceChecks c t x work marks)) _ _ _ (λ h. ap (λ (m : List ℕ). overlaid m marks) (s .backward x time (declared h))))
+        (unless-same (λ (b : BackwardTrace). b .marks) (firstOf (traceChecks c t x work marks)) _ _ _ (λ h. ap (λ (m : List ℕ). overlaid m marks) (s .backward x time (passed-entity c t x work marks h))))
 
     forward-answer : forwardOf d u x time work marks .answer ≡ forwardOf c t x time work marks .answer
     unfolding forwardOf
     forward-answer =
         rw checked-same
         (unless-same (λ (b : ForwardTrace). b .answer) (firstOf (traceChecks c t x work marks)) _ _ _
-        (λ h. λ j. record { refusal = 0; count = ones (s .forward x time (declared h) j); intake = s .intake x time (declared h) j }))
+        (λ h. λ j. record { refusal = 0; count = ones (s .forward x time (passed-entity c t x work marks h) j); intake = s .intake x time (passed-entity c t x work marks h) j }))
 
     forward-marks : forwardOf d u x time work marks .marks ≡ forwardOf c t x time work marks .marks
     unfolding forwardOf
     forward-marks =
         rw checked-same
-        (unless-same (λ (b : ForwardTrace). b .marks) (firstOf (traceChecks c t x work marks)) _ _ _ (λ h. ap (λ (m : List ℕ). overlaid m marks) (s .forward x time (declared h))))
+        (unless-same (λ (b : ForwardTrace). b .marks) (firstOf (traceChecks c t x work marks)) _ _ _ (λ h. ap (λ (m : List ℕ). overlaid m marks) (s .forward x time (passed-entity c t x work marks h))))
 
   -- The kept log
 

@@ -17,7 +17,7 @@ use Rattle.closure.proofs.Traces.{backward-marks, forward-marks, length-backwar
 use Rattle.causality.specs.Order.{upTo, since}
 use Rattle.causality.proofs.Reach.{Reach, reach-path}
 use Rattle.causality.proofs.IntakeTime.{latestTime, latestTime-one}
-use Rattle.agreement.proofs.Held.{Known}
+use Rattle.agreement.proofs.Held.{marked-some, Known}
 use Rattle.agreement.proofs.KeptOnly.{allKept, accepted-allKept, keptEvents-allKept, forward-kept, backward-kept}
 
 -- The traces of one trail
@@ -25,21 +25,15 @@ use Rattle.agreement.proofs.KeptOnly.{allKept, accepted-allKept, keptEv
 module _ {T : Trail} {n : ℕ} {hs : List Item} (k : Known T n hs) where
   backward-iff : (v t x : ℕ) → v < T .counts .entities → x < T .counts .entities → getD (backwardEntities T v t) x 0 ≡ 1 ↔ Reach (upTo t (accepted hs)) x v
   backward-iff v t x h l =
-      let a = backward-marks T (k .rows) v t x h l in
-      let d = k .faithful .backward v t (startOf T v t) x h (startOf-is T (k .rows) (k .few) v t h) in
-      let p = reach-path (upTo t (accepted hs)) x v in (
-        λ q. let z = a .0 q in p .1 (d .0 (record { version = z .0; marked = z .1; owner = z .2 })),
-        λ r. let z = d .1 (p .0 r) in a .1 (z .version, z .marked, z .owner),
-      )
+      Iff·trans (backward-marks T (k .rows) v t x h l)
+      (Iff·trans marked-some
+      (Iff·trans (k .faithful .backward v t (startOf T v t) x h (startOf-is T (k .rows) (k .few) v t h)) (Iff·symm (reach-path (upTo t (accepted hs)) x v))))
 
   forward-iff : (u t y : ℕ) → u < T .counts .entities → y < T .counts .entities → getD (forwardEntities T u t) y 0 ≡ 1 ↔ Reach (since u t hs) u y
   forward-iff u t y h l =
-      let a = forward-marks T (k .rows) u t y h l in
-      let d = k .faithful .forward u t (startOf T u t) y h (startOf-is T (k .rows) (k .few) u t h) in
-      let p = reach-path (since u t hs) u y in (
-        λ q. let z = a .0 q in p .1 (d .0 (record { version = z .0; marked = z .1; owner = z .2 })),
-        λ r. let z = d .1 (p .0 r) in a .1 (z .version, z .marked, z .owner),
-      )
+      Iff·trans (forward-marks T (k .rows) u t y h l)
+      (Iff·trans marked-some
+      (Iff·trans (k .faithful .forward u t (startOf T u t) y h (startOf-is T (k .rows) (k .few) u t h)) (Iff·symm (reach-path (since u t hs) u y))))
 
 -- The traces of both
 

@@ -17,12 +17,9 @@ use Rattle.rules.specs.PlainList.{worked, itemsOf}
 use Rattle.rules.specs.Marks.{ones}
 use Rattle.rules.specs.Backward.{BackwardTrace, backwardOf}
 use Rattle.rules.specs.Forward.{ForwardTrace, forwardOf}
+use Rattle.closure.specs.Arcs.{Marked}
 use Rattle.causality.specs.Statements.{eventOf, IsKept}
 use Rattle.rules.specs.Calls.{Call, heldAfter, Lent, AllLent, plainAfter}
-
--- byte x of a mark buffer is 1
-abbrev pub Marked : List ℕ → ℕ → Type 0
-Marked marks x = getD marks x 0 ≡ 1
 
 -- "In such a list a trace is refused only with 5 or 14."
 abbrev pub RefusedRightly : ℕ → Type 0

@@ -1,13 +1,14 @@
 -- The intake of a forward trace is the time of the latest kept intake at or before t, 0 if there is none.
 use Prim.Native.Nat.{ℕ, _≤_, _<_}
 use native.Mathlib.Omega.{arith}
-use mathlib.Core.Path.{_≡_, sym, _∙_, ap}
+use mathlib.Core.Path.{_≡_, refl, sym, _∙_, ap, subst}
 use mathlib.Core.Logic.{inl, inr}
 use mathlib.Core.Bool.{cond}
 use mathlib.Core.List.{List}
 use Rattle.rules.specs.Trail.{Trail, latestOf}
 use Rattle.rules.specs.History.{Item, accepted, keptEvents, IntakeTime}
 use Rattle.rules.specs.Start.{intakeOf}
+use Rattle.rules.proofs.Intake.{Enters, IsIntake, intakeOf-is, intake-one}
 use Rattle.causality.specs.Working.{ne, nv, startTime, EdgeIn, Grown}
 use Rattle.causality.specs.Order.{into}
 use Rattle.causality.proofs.Declared.{OldEntity}
@@ -19,20 +20,18 @@ use Rattle.causality.proofs.Reach.{All-imp}
 use Rattle.causality.proofs.Parts.{IntoCase, into-cases}
 use Rattle.causality.proofs.IntakeTime.{latestTime, latestTime-none, latestTime-is}
 use Rattle.causality.proofs.Accepted.{grown-within, no-intake}
-use Rattle.causality.proofs.Walk.{StartsAt, walk-last, walk-start, walk-declared, starts-in, starts-back, Rooted, rooted}
-use Rattle.causality.proofs.Greatest.{Intake, IsIntake, intake-is}
+use Rattle.causality.proofs.Walk.{StartsAt, walk-last, walk-declared, starts-in, starts-back}
 
--- there is one intake
-intake-one : (T : Trail) (s t : ℕ) → Rooted T s → (i j : ℕ) → IsIntake T s t i → IsIntake T s t j → i ≡ j
-intake-one T s t r i j p q = omega (arith, le i j p q (p .intake), le j i q p (q .intake))
-  where
-    start : (i j : ℕ) → IsIntake T s t i → IsIntake T s t j → i ≡ startTime T s → Rooted T s → i ≤ j
-    start i j p q z (inl y) = omega arith
-    start i j p q z (inr y) = omega (arith, z, q .most (y .from) (startTime T s) (y .enters) (omega (arith, p .by)))
+-- an edge that enters s by t, as an edge between versions, and the other way round
+enters-edge : {T : Trail} {s t k : ℕ} → Enters T s t k → EdgeIn T (T .edge k .from .0) s (T .edge k .time)
+enters-edge {k = k} e = record { number = k; inside = e .exists; from = refl; to = e .to; time = refl }
 
-    le : (i j : ℕ) → IsIntake T s t i → IsIntake T s t j → Intake T s i → i ≤ j
-    le i j p q (inl z) = start i j p q z r
-    le i j p q (inr (a, z)) = q .most a i z (p .by)
+edge-enters : {T : Trail} {a s x t : ℕ} (h : EdgeIn T a s x) → x ≤ t → Enters T s t (h .number)
+edge-enters h l = record { exists = h .inside; to = h .to; by = omega (arith, h .time) }
+
+-- the intake where an edge enters s at time i, and none later by t
+by-edge : {T : Trail} {a s t i : ℕ} → EdgeIn T a s i → i ≤ t → ((b x : ℕ) → EdgeIn T b s x → x ≤ t → x ≤ i) → IsIntake T s t i
+by-edge h l most = IsIntake.greatest (h .number) (edge-enters h l) (sym (h .time)) (λ j d. most _ _ (enters-edge d) (d .by))
 
 -- the time of the latest kept intake is the intake of the start version
 abbrev Timed : Trail → List Item → Type 0
@@ -41,14 +40,10 @@ Timed T hs = (u t s : ℕ) → u < ne T → StartsAt T u t s → IsIntake T s t 
 -- a start version that was there, and that no edge enters by t since
 stays : {T T′ : Trail} {s t i : ℕ} → startTime T′ s ≡ startTime T s → ((a x : ℕ) → EdgeIn T a s x → EdgeIn T′ a s x)
     → ((a x : ℕ) → EdgeIn T′ a s x → x ≤ t → EdgeIn T a s x) → IsIntake T s t i → IsIntake T′ s t i
-stays {T} {T′} {s} {t} {i} q old new p = go (p .intake)
-  where
-    most : (a x : ℕ) → EdgeIn T′ a s x → x ≤ t → x ≤ i
-    most a x k l = p .most a x (new a x k l) l
-
-    go : Intake T s i → IsIntake T′ s t i
-    go (inl z) = record { intake = inl (z ∙ sym q); by = p .by; most = most }
-    go (inr (a, k)) = record { intake = inr (a, old a i k); by = p .by; most = most }
+stays {T} {s = s} q old new (IsIntake.greatest k e p b) =
+    by-edge (old _ _ (subst (EdgeIn T _ s) (sym p) (enters-edge e))) (omega (arith, e .by))
+    (λ a x h l. let o = new a x h l in omega (arith, b (o .number) (edge-enters o l), o .time))
+stays q old new (IsIntake.start n p) = IsIntake.start (λ k e. let o = new _ _ (enters-edge e) (e .by) in n (o .number) (edge-enters o (e .by))) (p ∙ sym q)
 
 timed-declared : OnDeclared Timed
 timed-declared T T′ hs g d ih u t s h r = go (d .entity-inv u h)
@@ -60,7 +55,7 @@ timed-declared T T′ hs g d ih u t s h r = go (d .entity-inv u h)
     go (inr q) =
         let y : nv T ≡ s = walk-last (omega (arith, d .row .start-new)) (rw (q, d .row .latest-new) at r) in
         rw (q, latestTime-none (ne T) t hs (no-intake (ne T) t hs (All-imp (λ e w q _. omega (arith, w .target-in)) (accepted hs) (grown-within g))), ← y)
-        (record { intake = inl (sym (d .row .start-new)); by = omega arith; most = λ a x k l. absurd (omega (arith, inv g .to-in (d .edge-inv k))) })
+        (IsIntake.start (λ k e. omega (arith, inv g .to-in (d .edge-inv (enters-edge e)))) (sym (d .row .start-new)))
 
 timed-kept : OnKept Timed
 unfolding latestTime
@@ -74,7 +69,7 @@ timed-kept T T′ hs e w g k ih u t s h r = go (into-cases u t e)
     now q l =
         let y : latestOf T′ u ≡ w = ap (latestOf T′) (sym q) ∙ k .now .row .latest-target in
         let o : w ≡ s = walk-last (omega (arith, inv-kept k .start-in w (k .now .w-in))) (rw y at r) in
-        rw (← o) (record { intake = inr (latestOf T (e .source .0), k .now .edge-new); by = l; most = λ a x c _. inv-kept k .time-in c })
+        rw (← o) (by-edge (k .now .edge-new) l (λ a x c _. inv-kept k .time-in c))
 
     -- it does not, by t
     other : (e .target .0 ≡ u → e .time ≤ t → ⊥) → IsIntake T′ s t (latestTime u t (keptEvents hs))
@@ -102,5 +97,4 @@ timed : {T : Trail} {hs : List Item} → Grown T hs → Timed T hs
 timed g = grown-ind Timed (λ T x _ _ u t s h. absurd (omega arith)) timed-declared (λ T hs e g f l ih. ih) timed-kept g
 
 pub intake-is-latest : {T : Trail} {hs : List Item} → Grown T hs → (u t s : ℕ) → u < ne T → StartsAt T u t s → IntakeTime u t hs (intakeOf T s t)
-intake-is-latest {T} {hs} g u t s h r =
-    rw (intake-one T s t (rooted g s (starts-in (inv g) h r)) (intakeOf T s t) (latestTime u t (keptEvents hs)) (intake-is T s t (walk-start r)) (timed g u t s h r)) (latestTime-is u t hs)
+intake-is-latest {T} {hs} g u t s h r = rw (intake-one T s t (intakeOf-is T s t) (timed g u t s h r)) (latestTime-is u t hs)

@@ -3,12 +3,13 @@ use Prim.Native.Nat.{ℕ, _≤_, _<_}
 use native.Mathlib.Omega.{arith}
 use mathlib.Core.Path.{_≡_, refl, _∙_, ap}
 use mathlib.Core.Logic.{_⊎_, inl, inr}
-use mathlib.Core.Bool.{Bool, true, false, _&&_, cond}
+use mathlib.Core.Bool.{Bool, true, false, cond}
 use mathlib.Core.List.{List, [], _∷_, _++_}
-use lib.Dec.{leb, eqb}
-use borrow.Author.Tests.{eqb-true, eqb-false, leb-true, leb-false, le-leb}
+use lib.Dec.{leb}
+use borrow.Author.Tests.{leb-true, le-leb}
 use Rattle.record.specs.declared.Event.{Event}
 use Rattle.rules.specs.History.{Item, kept, dropped, accepted, NoIntake, LatestIntake}
+use Rattle.rules.proofs.Intake.{by-cases}
 use Rattle.causality.specs.Order.{Part, done, skip, take, upTo, into, since, All}
 use Rattle.causality.proofs.Reach.{part-nil}
 
@@ -19,13 +20,7 @@ IntoCase u t e =
 
 pub into-cases : (u t : ℕ) (e : Event) → IntoCase u t e
 unfolding into
-into-cases u t e = go (eqb (e .target .0) u) refl (leb (e .time) t) refl
-  where
-    go : (b : Bool) → eqb (e .target .0) u ≡ b → (c : Bool) → leb (e .time) t ≡ c
-        → ((e .target .0 ≡ u) × (e .time ≤ t) × ((b && c) ≡ true)) ⊎ ((e .target .0 ≡ u → e .time ≤ t → ⊥) × ((b && c) ≡ false))
-    go true q true r = inl (eqb-true _ _ q, leb-true _ _ r, refl)
-    go true q false r = inr ((λ _ l. omega (arith, leb-false (e .time) t r)), refl)
-    go false q c r = inr ((λ z _. eqb-false _ _ q z), refl)
+into-cases u t e = by-cases (e .target .0) u (e .time) t
 
 pub into-true : (u t : ℕ) (e : Event) → e .target .0 ≡ u → e .time ≤ t → into u t e ≡ true
 into-true u t e p q = go (into-cases u t e)

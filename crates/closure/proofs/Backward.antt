@@ -24,7 +24,7 @@ module _ (T : Trail) (s t : ℕ) where
   abbrev StepArc : Arc → Type 0
   StepArc x = (k : ℕ) × (k < T .counts .versions) × (T .version k .previous .0 ≡ none → ⊥) × (x ≡ arc k (T .version k .previous .0))
 
-  pub backwardArcs-iff : (x : Arc) → List·Memᴰ x (backwardArcs T s t) ↔ (EdgeArc x ⊎ StepArc x)
+  backwardArcs-iff : (x : Arc) → List·Memᴰ x (backwardArcs T s t) ↔ (EdgeArc x ⊎ StepArc x)
   unfolding backwardArcs
   backwardArcs-iff x = (λ m. to (List·Memᴰ·append-cases (edgesBack (T .edge) s t (T .counts .edges)) m), from)
     where
@@ -41,6 +41,14 @@ module _ (T : Trail) (s t : ℕ) where
       from : EdgeArc x ⊎ StepArc x → List·Memᴰ x (backwardArcs T s t)
       from (inl z) = Memᴰ·append-left (stepsBack (T .version) (T .counts .versions)) (e .1 z)
       from (inr z) = Memᴰ·append-right (edgesBack (T .edge) s t (T .counts .edges)) (p .1 z)
+
+  -- every arc ends at a version that exists
+  pub backwardArcs-ends : RowFacts T → EndBelow (T .counts .versions) (backwardArcs T s t)
+  backwardArcs-ends f x m = go (backwardArcs-iff x .0 m)
+    where
+      go : EdgeArc x ⊎ StepArc x → x .to < T .counts .versions
+      go (inl (k, l, c, e)) = rw e (f .edge k l .from-in)
+      go (inr (k, l, c, e)) = rw e (omega (arith, previous-before T f k l c))
 
   reached-marks : {a : ℕ} → ReachedBy (backwardArcs T s t) (s ∷ []) a → BackwardMarks T s t a
   reached-marks (ReachedBy.seed k) = BackwardMarks.start (List·Memᴰ·eq-of-singleton k)
@@ -72,25 +80,18 @@ module _ (T : Trail) (s t : ℕ) where
     marks-reached (BackwardMarks.previous {b = b} d n q) =
         ReachedBy.along (arc b (T .version b .previous .0)) (marks-reached d) (backwardArcs-iff _ .1 (inr (b, backwardMarks-in d, n, refl))) refl (sym q)
 
-    ends : EndBelow (T .counts .versions) (backwardArcs T s t)
-    ends x m = go (backwardArcs-iff x .0 m)
-      where
-        go : EdgeArc x ⊎ StepArc x → x .to < T .counts .versions
-        go (inl (k, l, c, e)) = rw e (f .edge k l .from-in)
-        go (inr (k, l, c, e)) = rw e (omega (arith, previous-before T f k l c))
-
     seeds : AllBelow (T .counts .versions) (s ∷ [])
     seeds b m = rw (List·Memᴰ·eq-of-singleton m) h
 
     marks-iff : (w : ℕ) → Marked (closed (T .counts .versions) (backwardArcs T s t) (s ∷ [])) w ↔ BackwardMarks T s t w
-    marks-iff w = let o = closed-iff (T .counts .versions) (backwardArcs T s t) (s ∷ []) ends seeds w in (λ q. reached-marks (o .0 q), λ d. o .1 (marks-reached d))
+    marks-iff w = let o = closed-iff (T .counts .versions) (backwardArcs T s t) (s ∷ []) (backwardArcs-ends f) seeds w in (λ q. reached-marks (o .0 q), λ d. o .1 (marks-reached d))
 
     marks-unique : (m : List ℕ) → length m ≡ T .counts .versions → Bits m → Marked m s → ((w : ℕ) → Marked m w → BackwardMarks T s t w)
         → ((k : ℕ) → k < T .counts .edges → (T .edge k .to .0 ≡ s → T .edge k .time ≤ t) → Marked m (T .edge k .to .0) → Marked m (T .edge k .from .0))
         → ((k : ℕ) → k < T .counts .versions → (T .version k .previous .0 ≡ none → ⊥) → Marked m k → Marked m (T .version k .previous .0))
         → m ≡ closed (T .counts .versions) (backwardArcs T s t) (s ∷ [])
     marks-unique m l b i r edges steps =
-        closed-unique (T .counts .versions) (backwardArcs T s t) (s ∷ []) ends seeds m l b (λ c k. rw (List·Memᴰ·eq-of-singleton k) i) (λ c o. marks-reached (r c o))
+        closed-unique (T .counts .versions) (backwardArcs T s t) (s ∷ []) (backwardArcs-ends f) seeds m l b (λ c k. rw (List·Memᴰ·eq-of-singleton k) i) (λ c o. marks-reached (r c o))
         (λ x k. go x (backwardArcs-iff x .0 k))
       where
         go : (x : Arc) → EdgeArc x ⊎ StepArc x → Marked m (x .from) → Marked m (x .to)

@@ -1,19 +1,20 @@
 -- The marks of `closed` are what the arcs reach from the seeds, and no other list has these marks.
 use Prim.Native.Nat.{ℕ, _<_}
 use native.Mathlib.Omega.{arith}
-use mathlib.Core.Path.{_≡_, sym, _∙_, ap, subst}
+use mathlib.Core.Path.{_≡_, sym, _∙_, subst}
 use mathlib.Core.Logic.{_⊎_, inl, inr, _↔_}
 use mathlib.Core.List.{List, [], _∷_, List·Memᴰ, List·Memᴰ·head, List·Memᴰ·tail, List·Memᴰ·cases-cons, List·Memᴰ·not-nil}
 use lib.ListN.{length, getD, set, length-set, length-replicate}
-use Rattle.rules.specs.Marks.{Arc, pass, seeded, closed}
-use Rattle.closure.specs.Arcs.{ReachedBy, Marked, Bits, EndBelow, AllBelow, ClosedUnder, unmarked}
-use Rattle.closure.proofs.Marks.{getD-zeros, bits-zeros, marked-set-cases, marked-set, marked-set-same, bits-set, marks-ext, unmarked-le}
+use Rattle.rows.proofs.Stores.{getD-zeros}
+use Rattle.rules.specs.Marks.{Arc, pass, passes, seeded, closed}
+use Rattle.closure.specs.Arcs.{ReachedBy, Marked, Bits, EndBelow, AllBelow, ClosedUnder}
+use Rattle.closure.proofs.Marks.{bits-zeros, marked-set-cases, marked-set, marked-set-same, bits-set, marks-ext, unmarked-le}
 use Rattle.closure.proofs.Passes.{length-passes, marked-passes, bits-passes, reached-passes}
-use Rattle.closure.proofs.Steady.{Steady, pass-less, passes-enough}
+use Rattle.closure.proofs.Steady.{Steady, passes-enough}
 
 -- the seeds
 
-pub length-seeded : (n : ℕ) (ss : List ℕ) → length (seeded n ss) ≡ n
+length-seeded : (n : ℕ) (ss : List ℕ) → length (seeded n ss) ≡ n
 unfolding seeded
 length-seeded n [] = length-replicate {A = ℕ} n 0
 length-seeded n (s ∷ ss) = length-set (seeded n ss) s 1 ∙ length-seeded n ss
@@ -56,7 +57,7 @@ bits-closed n arcs ss = bits-passes n arcs (seeded n ss) (bits-seeded n ss)
 
 pub closed-reached : (n : ℕ) (arcs : List Arc) (ss : List ℕ) (b : ℕ) → Marked (closed n arcs ss) b → ReachedBy arcs ss b
 unfolding closed
-closed-reached n arcs ss = reached-passes arcs ss n (seeded n ss) (λ b o. ReachedBy.seed (seeded-marked n ss b o))
+closed-reached n arcs ss = reached-passes arcs ss arcs (λ x k. k) n (seeded n ss) (λ b o. ReachedBy.seed (seeded-marked n ss b o))
 
 module _ (n : ℕ) (arcs : List Arc) (ss : List ℕ) (ends : EndBelow n arcs) (starts : AllBelow n ss) where
   closed-steady : Steady arcs (closed n arcs ss)
@@ -80,11 +81,18 @@ module _ (n : ℕ) (arcs : List Arc) (ss : List ℕ) (ends : EndBelow n arcs) (s
       marks-ext m (closed n arcs ss) (l ∙ sym (length-closed n arcs ss)) h (bits-closed n arcs ss)
       (λ b _. (λ o. closed-iff b .1 (r b o), λ o. reached-marked arcs ss m s c (closed-reached n arcs ss b o)))
 
-  -- a pass that changes nothing ends the passes
-  pub closed-stop : (m : List ℕ) → length m ≡ n → Bits m → ((s : ℕ) → List·Memᴰ s ss → Marked m s)
-      → ((b : ℕ) → Marked m b → ReachedBy arcs ss b) → pass arcs m ≡ m → m ≡ closed n arcs ss
-  closed-stop m l h s r q = closed-unique m l h s r (go (pass-less arcs m (λ x k. omega (arith, ends x k))))
+  -- passes over the same arcs in another order, some of them more than once, after a pass over some of the arcs
+  pub closed-same : (xs ys : List Arc) → ((x : Arc) → List·Memᴰ x xs → List·Memᴰ x arcs) → ((x : Arc) → List·Memᴰ x ys ↔ List·Memᴰ x arcs)
+      → passes n ys (pass xs (seeded n ss)) ≡ closed n arcs ss
+  unfolding passes
+  closed-same xs ys some same =
+      closed-unique (passes n ys m) (length-passes n ys m ∙ l) (bits-passes n ys m (bits-passes 1 xs (seeded n ss) (bits-seeded n ss)))
+      (λ s k. marked-passes n ys m s (marked-passes 1 xs (seeded n ss) s (marked-seeded n ss s (starts s k) k)))
+      (reached-passes arcs ss ys (λ x. same x .0) n m (reached-passes arcs ss xs some 1 (seeded n ss) (λ b o. ReachedBy.seed (seeded-marked n ss b o))))
+      (λ x k. passes-enough n ys m (λ y z. omega (arith, ends y (same y .0 z), l)) (omega (arith, unmarked-le m, l)) .1 x (same x .1 k))
     where
-      go : Steady arcs m ⊎ (unmarked (pass arcs m) < unmarked m) → ClosedUnder arcs m
-      go (inl c) = c .1
-      go (inr c) = absurd (omega (arith, ap unmarked q))
+      m : List ℕ
+      m = pass xs (seeded n ss)
+
+      l : length m ≡ n
+      l = length-passes 1 xs (seeded n ss) ∙ length-seeded n ss

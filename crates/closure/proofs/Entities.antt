@@ -11,23 +11,24 @@ use lib.Seq.{getD-at}
 use lib.Dec.{eqb}
 use borrow.Author.Tests.{eqb-true, eq-eqb}
 use Rattle.rows.specs.declared.VersionRow.{VersionRow}
+use Rattle.rows.proofs.Stores.{getD-zeros}
 use Rattle.rules.specs.Marks.{hasMarked, marksBelow}
 use Rattle.closure.specs.Arcs.{Marked, Bits}
-use Rattle.closure.proofs.Marks.{getD-zeros, bits-zeros, marked-set-cases, marked-set, marked-set-same, bits-set, bits-past, marks-ext}
+use Rattle.closure.proofs.Marks.{bits-zeros, marked-set-cases, marked-set, marked-set-same, bits-set, bits-past, marks-ext}
 
 module _ (W : ℕ → VersionRow) (work : List ℕ) where
   -- entity x has a marked version among the first n
   abbrev pub HasMarked : ℕ → ℕ → Type 0
   HasMarked n x = (k : ℕ) × (k < n) × Marked work k × (W k .entity .0 ≡ x)
 
+  later : {n x : ℕ} → HasMarked n x → HasMarked (suc n) x
+  later (k, l, o, e) = (k, omega arith, o, e)
+
   marked-has : (x n : ℕ) → hasMarked W work x n ≡ true → HasMarked n x
   unfolding hasMarked
   marked-has x zero q = absurd (let z : _≡_ {A = ℕ} 0 1 = cc in omega arith)
   marked-has x (suc k) q = go (eqb (W k .entity .0) x) (eqb (getD work k 0) 1) refl refl q (λ z. marked-has x k z)
     where
-      later : HasMarked k x → HasMarked (suc k) x
-      later (j, l, o, e) = (j, omega arith, o, e)
-
       go : (a b : Bool) → eqb (W k .entity .0) x ≡ a → eqb (getD work k 0) 1 ≡ b → (a && b || hasMarked W work x k) ≡ true → (hasMarked W work x k ≡ true → HasMarked k x) → HasMarked (suc k) x
       go true true p o z ih = (k, omega arith, eqb-true _ _ o, eqb-true _ _ p)
       go true false p o z ih = later (ih z)
@@ -85,9 +86,6 @@ module _ (W : ℕ → VersionRow) (work : List ℕ) where
   marksBelow-zero m =
       marksBelow-unique 0 m (replicate m 0) (length-replicate {A = ℕ} m 0) (bits-zeros m)
       (λ x l. (λ o. absurd (omega (arith, getD-zeros m x)), λ z. absurd (omega (arith, z .1))))
-
-  later : {n x : ℕ} → HasMarked n x → HasMarked (suc n) x
-  later (k, l, o, e) = (k, omega arith, o, e)
 
   last-has : {n x : ℕ} → HasMarked (suc n) x → HasMarked n x ⊎ (Marked work n × (W n .entity .0 ≡ x))
   last-has {n} {x} (k, l, o, e) = go (ℕ-discrete k n)

@@ -22,7 +22,7 @@ module _ (T : Trail) where
   abbrev StepArc : Arc → Type 0
   StepArc x = (k : ℕ) × (k < T .counts .versions) × (T .version k .previous .0 ≡ none → ⊥) × (x ≡ arc (T .version k .previous .0) k)
 
-  pub forwardArcs-iff : (x : Arc) → List·Memᴰ x (forwardArcs T) ↔ (EdgeArc x ⊎ StepArc x)
+  forwardArcs-iff : (x : Arc) → List·Memᴰ x (forwardArcs T) ↔ (EdgeArc x ⊎ StepArc x)
   unfolding forwardArcs
   forwardArcs-iff x = (λ m. to (List·Memᴰ·append-cases (edgesOn (T .edge) (T .counts .edges)) m), from)
     where
@@ -39,6 +39,14 @@ module _ (T : Trail) where
       from : EdgeArc x ⊎ StepArc x → List·Memᴰ x (forwardArcs T)
       from (inl z) = Memᴰ·append-left (stepsOn (T .version) (T .counts .versions)) (e .1 z)
       from (inr z) = Memᴰ·append-right (edgesOn (T .edge) (T .counts .edges)) (p .1 z)
+
+  -- every arc ends at a version that exists
+  pub forwardArcs-ends : RowFacts T → EndBelow (T .counts .versions) (forwardArcs T)
+  forwardArcs-ends f x m = go (forwardArcs-iff x .0 m)
+    where
+      go : EdgeArc x ⊎ StepArc x → x .to < T .counts .versions
+      go (inl (k, l, e)) = rw e (f .edge k l .to-in)
+      go (inr (k, l, c, e)) = rw e l
 
   module _ (s : ℕ) where
     reached-marks : {b : ℕ} → ReachedBy (forwardArcs T) (s ∷ []) b → ForwardMarks T s b
@@ -64,25 +72,18 @@ module _ (T : Trail) where
       forwardMarks-in (ForwardMarks.leaving k l d q) = rw q (f .edge k l .to-in)
       forwardMarks-in (ForwardMarks.next d l c q) = l
 
-      ends : EndBelow (T .counts .versions) (forwardArcs T)
-      ends x m = go (forwardArcs-iff x .0 m)
-        where
-          go : EdgeArc x ⊎ StepArc x → x .to < T .counts .versions
-          go (inl (k, l, e)) = rw e (f .edge k l .to-in)
-          go (inr (k, l, c, e)) = rw e l
-
       seeds : AllBelow (T .counts .versions) (s ∷ [])
       seeds b m = rw (List·Memᴰ·eq-of-singleton m) h
 
       marks-iff : (w : ℕ) → Marked (closed (T .counts .versions) (forwardArcs T) (s ∷ [])) w ↔ ForwardMarks T s w
-      marks-iff w = let o = closed-iff (T .counts .versions) (forwardArcs T) (s ∷ []) ends seeds w in (λ q. reached-marks (o .0 q), λ d. o .1 (marks-reached d))
+      marks-iff w = let o = closed-iff (T .counts .versions) (forwardArcs T) (s ∷ []) (forwardArcs-ends f) seeds w in (λ q. reached-marks (o .0 q), λ d. o .1 (marks-reached d))
 
       marks-unique : (m : List ℕ) → length m ≡ T .counts .versions → Bits m → Marked m s → ((w : ℕ) → Marked m w → ForwardMarks T s w)
           → ((k : ℕ) → k < T .counts .edges → Marked m (T .edge k .from .0) → Marked m (T .edge k .to .0))
           → ((k : ℕ) → k < T .counts .versions → (T .version k .previous .0 ≡ none → ⊥) → Marked m (T .version k .previous .0) → Marked m k)
           → m ≡ closed (T .counts .versions) (forwardArcs T) (s ∷ [])
       marks-unique m l b i r edges steps =
-          closed-unique (T .counts .versions) (forwardArcs T) (s ∷ []) ends seeds m l b (λ c k. rw (List·Memᴰ·eq-of-singleton k) i) (λ c o. marks-reached (r c o))
+          closed-unique (T .counts .versions) (forwardArcs T) (s ∷ []) (forwardArcs-ends f) seeds m l b (λ c k. rw (List·Memᴰ·eq-of-singleton k) i) (λ c o. marks-reached (r c o))
           (λ x k. go x (forwardArcs-iff x .0 k))
         where
           go : (x : Arc) → EdgeArc x ⊎ StepArc x → Marked m (x .from) → Marked m (x .to)

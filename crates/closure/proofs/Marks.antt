@@ -7,10 +7,11 @@ use mathlib.Core.Path.{_≡_, sym, _∙_, subst}
 use mathlib.Core.Logic.{_⊎_, inl, inr, _↔_}
 use mathlib.Core.Bool.{Bool, true, false, cond}
 use mathlib.Core.List.{List, [], _∷_}
-use lib.ListN.{length, getD, set, replicate, length-set, length-replicate, getD-replicate, List·getD-eq-default}
+use lib.ListN.{length, getD, set, replicate, length-set, List·getD-eq-default}
 use lib.Seq.{getD-set-same, getD-set-other, set-getD, ext-getD}
 use lib.Dec.{eqb}
 use borrow.Author.Tests.{ne-eqb}
+use Rattle.rows.proofs.Stores.{getD-zeros}
 use Rattle.closure.specs.Arcs.{Marked, Bits, unmarked}
 
 pub marked-in : (m : List ℕ) (b : ℕ) → Marked m b → b < length m
@@ -19,13 +20,6 @@ marked-in m b h = go (decLt b (length m))
     go : Dec (b < length m) → b < length m
     go (yes l) = l
     go (no l) = absurd (omega (arith, List·getD-eq-default m 0 {n = b} (omega arith)))
-
-pub getD-zeros : (n b : ℕ) → getD (replicate {A = ℕ} n 0) b 0 ≡ 0
-getD-zeros n b = go (decLt b n)
-  where
-    go : Dec (b < n) → getD (replicate {A = ℕ} n 0) b 0 ≡ 0
-    go (yes l) = getD-replicate n b 0 0 l
-    go (no l) = List·getD-eq-default (replicate {A = ℕ} n 0) 0 {n = b} (omega (arith, length-replicate {A = ℕ} n 0))
 
 pub bits-zeros : (n : ℕ) → Bits (replicate {A = ℕ} n 0)
 bits-zeros n b = inl (getD-zeros n b)

@@ -5,35 +5,16 @@ use mathlib.Core.Path.{_≡_, refl, sym, _∙_, ap, subst}
 use mathlib.Core.Logic.{_↔_}
 use mathlib.Core.Bool.{Bool, true, false, cond}
 use mathlib.Core.List.{List, [], _∷_, _++_, List·Memᴰ}
-use lib.ListN.{length, getD, set, take, replicate, length-set}
+use lib.ListN.{length, getD, take}
 use lib.Seq.{take-suc, take-length}
 use lib.Dec.{eqb}
 use borrow.Author.Tests.{eqb-true, eq-eqb}
 use Rattle.rules.specs.Marks.{ones}
-use Rattle.closure.specs.Arcs.{Marked, unmarked}
+use Rattle.closure.specs.Arcs.{Marked}
 use Rattle.closure.specs.Collected.{collected}
 use Rattle.closure.specs.Places.{placesBelow, places, Falling}
-use Rattle.closure.proofs.Marks.{marked-in, unmarked-set}
+use Rattle.closure.proofs.Marks.{marked-in}
 use Rattle.closure.proofs.Collected.{collected-iff}
-
--- a place marked is one, a place not marked is none
-pub ones-unmarked : (m : List ℕ) → ones m + unmarked m ≡ length m
-unfolding ones unmarked
-ones-unmarked [] = refl
-ones-unmarked (x ∷ m) = go (eqb x 1) (ones-unmarked m)
-  where
-    go : (b : Bool) → ones m + unmarked m ≡ length m → (cond b 1 0 + ones m) + (cond b 0 1 + unmarked m) ≡ suc (length m)
-    go true q = omega arith
-    go false q = omega arith
-
--- a new mark is one more
-pub ones-set : (m : List ℕ) (i : ℕ) → i < length m → (Marked m i → ⊥) → ones (set m i 1) ≡ suc (ones m)
-ones-set m i l h = omega (arith, ones-unmarked m, ones-unmarked (set m i 1), unmarked-set m i l h, length-set m i 1)
-
-pub ones-zeros : (n : ℕ) → ones (replicate n 0) ≡ 0
-unfolding ones
-ones-zeros zero = refl
-ones-zeros (suc n) = omega (arith, ones-zeros n)
 
 pub ones-append : (a b : List ℕ) → ones (a ++ b) ≡ ones a + ones b
 unfolding ones

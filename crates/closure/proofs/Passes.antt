@@ -30,7 +30,7 @@ module _ (P : List ℕ → Type 0) (arcs : List Arc) (stays : (a : Arc) → List
   pass-keeps [] k m h = h
   pass-keeps (a ∷ as′) k m h = pass-keeps as′ (λ x y. k x (List·Memᴰ·tail y)) (follow a m) (stays a (k a (List·Memᴰ·head refl)) m h)
 
-  pub keeps-pass : (m : List ℕ) → P m → P (pass arcs m)
+  keeps-pass : (m : List ℕ) → P m → P (pass arcs m)
   keeps-pass m h = pass-keeps arcs (λ a k. k) m h
 
   pub keeps-passes : (n : ℕ) (m : List ℕ) → P m → P (passes n arcs m)
@@ -88,5 +88,7 @@ module _ (arcs : List Arc) (ss : List ℕ) where
       go (inl c) = by (c .0) (marked-set-cases m (a .to) b (subst (λ l. Marked l b) (c .1) o))
       go (inr c) = h b (subst (λ l. Marked l b) (c .1) o)
 
-  pub reached-passes : (n : ℕ) (m : List ℕ) → ((b : ℕ) → Marked m b → ReachedBy arcs ss b) → (b : ℕ) → Marked (passes n arcs m) b → ReachedBy arcs ss b
-  reached-passes n m h = keeps-passes Reaches arcs reaches-follow n m h
+  -- after passes over some of the arcs
+  pub reached-passes : (xs : List Arc) → ((x : Arc) → List·Memᴰ x xs → List·Memᴰ x arcs) → (n : ℕ) (m : List ℕ) → ((b : ℕ) → Marked m b → ReachedBy arcs ss b)
+      → (b : ℕ) → Marked (passes n xs m) b → ReachedBy arcs ss b
+  reached-passes xs i n m h = keeps-passes Reaches xs (λ x k. reaches-follow x (i x k)) n m h

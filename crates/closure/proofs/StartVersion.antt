@@ -1,4 +1,4 @@
--- The start version of document 01, "Traces", is the one computed, and there is only one.
+-- The start version of document 01, "Traces", is the one computed.
 use Prim.Native.Nat.{ℕ, zero, suc, _≤_, _<_}
 use native.Mathlib.Omega.{arith}
 use mathlib.Core.Path.{_≡_, refl, _∙_, ap}
@@ -10,10 +10,6 @@ use Rattle.rules.specs.Trail.{Trail, none, latestOf, ownerOf}
 use Rattle.rules.specs.Start.{OnChain, StartVersion, startFrom, startOf}
 use Rattle.soundness.specs.Facts.{RowFacts}
 use Rattle.closure.proofs.Start.{startFrom-stop, previous-lower, previous-before, start-by}
-
--- only one version is the start version
-pub startVersion-unique : {T : Trail} {x t s s′ : ℕ} → StartVersion T x t s → StartVersion T x t s′ → s ≡ s′
-startVersion-unique {s = s} {s′ = s′} a b = omega (arith, a .highest s′ (b .on-chain) (b .by), b .highest s (a .on-chain) (a .by))
 
 module _ (T : Trail) (f : RowFacts T) where
   -- a version on the chain exists and is of the entity
@@ -79,6 +75,3 @@ module _ (T : Trail) (f : RowFacts T) where
       by = start-by T f x t h;
       highest = start-highest x t h;
     }
-
-    pub startOf-unique : {x t s : ℕ} → x < T .counts .entities → StartVersion T x t s → s ≡ startOf T x t
-    startOf-unique {x} {t} h a = startVersion-unique a (startOf-is x t h)

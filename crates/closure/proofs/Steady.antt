@@ -34,7 +34,7 @@ closed-cons a arcs m f c x k o = by (List·Memᴰ·cases-cons k)
 abbrev pub Steady : List Arc → List ℕ → Type 0
 Steady arcs m = (pass arcs m ≡ m) × ClosedUnder arcs m
 
-pub pass-less : (arcs : List Arc) (m : List ℕ) → EndBelow (length m) arcs → Steady arcs m ⊎ (unmarked (pass arcs m) < unmarked m)
+pass-less : (arcs : List Arc) (m : List ℕ) → EndBelow (length m) arcs → Steady arcs m ⊎ (unmarked (pass arcs m) < unmarked m)
 unfolding pass
 pass-less [] m l = inl (refl, λ a k. absurd (List·Memᴰ·not-nil k))
 pass-less (a ∷ as′) m l =

@@ -4,10 +4,15 @@ use mathlib.Core.Path.{_≡_}
 use mathlib.Core.Logic.{_↔_}
 use mathlib.Core.List.{List}
 use lib.ListN.{length, getD}
-use Rattle.rules.specs.Trail.{Trail, ownerOf}
+use borrow.Author.Tests.{leb-false}
+use Rattle.refusals.specs.declared.Checked.the-variants.{Passed}
+use Rattle.refusals.specs.Refusals.{firstOf}
+use Rattle.refusals.proofs.Checks.{passed-all-false}
+use Rattle.rows.specs.declared.Counts.{Counts}
+use Rattle.rules.specs.Trail.{Tables, Trail, ownerOf}
 use Rattle.rules.specs.Start.{startOf}
 use Rattle.rules.specs.Marks.{marksBelow}
-use Rattle.rules.specs.Backward.{BackwardMarks, backwardWork, backwardEntities}
+use Rattle.rules.specs.Backward.{BackwardMarks, backwardWork, backwardEntities, traceChecks}
 use Rattle.rules.specs.Forward.{ForwardMarks, forwardWork, forwardEntities}
 use Rattle.soundness.specs.Facts.{RowFacts}
 use Rattle.closure.specs.Arcs.{Marked, Bits}
@@ -32,6 +37,11 @@ length-forwardEntities T u t = length-marksBelow (T .version) (forwardWork T u t
 pub bits-forwardEntities : (T : Trail) (u t : ℕ) → Bits (forwardEntities T u t)
 unfolding forwardEntities
 bits-forwardEntities T u t = bits-marksBelow (T .version) (forwardWork T u t) (T .counts .versions) (T .counts .entities)
+
+-- a trace whose checks pass is of an entity that is declared
+pub passed-entity : (c : Counts) (t : Tables) (x : ℕ) (work marks : List ℕ) → firstOf (traceChecks c t x work marks) ≡ Passed → x < c .entities
+unfolding traceChecks
+passed-entity c t x work marks p = leb-false _ _ (passed-all-false _ p .1 .0)
 
 -- where the work buffer marks the versions of a set, the mark buffer marks their entities
 module _ (T : Trail) (work : List ℕ) (M : ℕ → Type 0) (is : (w : ℕ) → Marked work w ↔ M w) (inside : (w : ℕ) → M w → w < T .counts .versions) where

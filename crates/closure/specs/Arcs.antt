@@ -13,6 +13,7 @@ pub data ReachedBy (arcs : List Arc) (seeds : List ℕ) : ℕ → Type 0 where
   seed : {b : ℕ} → List·Memᴰ b seeds → ReachedBy arcs seeds b
   along : {a b : ℕ} (x : Arc) → ReachedBy arcs seeds a → List·Memᴰ x arcs → x .from ≡ a → x .to ≡ b → ReachedBy arcs seeds b
 
+-- place b is marked
 abbrev pub Marked : List ℕ → ℕ → Type 0
 Marked m b = getD m b 0 ≡ 1
 

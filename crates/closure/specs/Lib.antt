@@ -1,5 +1,4 @@
 pub mod Arcs
 pub mod Collected
 pub mod Places
-pub mod Intake
 pub mod Same

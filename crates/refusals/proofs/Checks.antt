@@ -98,7 +98,9 @@ module _ {A : Type 0} (x y z : A) (b : Bool) where
   pub pick-false : b ≡ false → x ≡ z → x ≡ cond b y z
   pick-false e p = rw e p
 
-pub ruleset tests = (lt-ltb, le-ltb, le-leb, lt-leb, eq-eqb, ne-eqb, not-true-of, not-false-of, lt-true-by, lt-false-by, le-true-by, le-false-by, eq-true-by, eq-false-by)
+pub ruleset plain = (lt-ltb, le-ltb, le-leb, lt-leb, eq-eqb, ne-eqb, not-true-of, not-false-of)
+
+pub ruleset tests = (plain, lt-true-by, lt-false-by, le-true-by, le-false-by, eq-true-by, eq-false-by)
 
 pub ruleset by-right = (lt-true-by-right, lt-false-by-right, le-true-by-right, le-false-by-right, eq-true-by-right, eq-false-by-right)
 

@@ -1,10 +1,10 @@
--- A run of numbers stored in a list, of any length: what stands inside the run and outside it.
+-- A run of numbers stored in a list, of any length: what stands inside the run and outside it. A list of zeros.
 use Prim.Native.Nat.{ℕ, zero, suc, _+_, _≤_, _<_}
 use native.Mathlib.Omega.{arith}
 use native.Mathlib.Numerals.{add-one}
-use mathlib.Core.Path.{_≡_, refl, sym, _∙_, ap}
+use mathlib.Core.Path.{_≡_, refl, _∙_, ap}
 use mathlib.Core.List.{List, [], _∷_}
-use lib.ListN.{length, getD, set, length-set}
+use lib.ListN.{length, getD, set, length-set, replicate}
 use lib.Seq.{sets, getD-set-same, getD-set-other}
 
 pub getD-sets-out : (vs xs : List ℕ) (i m : ℕ) → (i ≤ m → i + length vs ≤ m) → getD (sets xs i vs) m 0 ≡ getD xs m 0
@@ -21,6 +21,11 @@ getD-sets-in (v ∷ vs) xs i zero m e l h =
     ∙ getD-set-same xs i v 0 (omega arith)
 getD-sets-in (v ∷ vs) xs i (suc j) m e l h =
     getD-sets-in vs (set xs i v) (suc i) j m (omega arith) (omega arith) (simp length-set (omega arith))
+
+pub getD-zeros : (n i : ℕ) → getD {A = ℕ} (replicate n 0) i 0 ≡ 0
+getD-zeros zero i = refl
+getD-zeros (suc n) zero = refl
+getD-zeros (suc n) (suc i) = getD-zeros n i
 
 -- two and four stores in code, one after another
 

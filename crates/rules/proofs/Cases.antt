@@ -1,5 +1,5 @@
 -- The worked trail and the order of refusals: every row is computed by the definitions, from the bytes of the file.
-use mathlib.Core.Path.{_≡_, refl}
+use mathlib.Core.Path.{refl}
 use Rattle.refusals.specs.Refusals.{firstOf}
 use Rattle.rows.specs.Rows.{entityAt, versionAt, edgeAt, putEntity, putVersion, putEdge}
 use Rattle.rows.specs.Capacity.{entityCapacity, versionCapacity, edgeCapacity}

@@ -9,7 +9,7 @@ use Rattle.refusals.specs.declared.Refusal.the-variants.{NotEventFile, WrongVer
 use Rattle.refusals.specs.Refusals.{refusalNo}
 use Rattle.rows.specs.declared.Counts.{Counts}
 use Rattle.rules.specs.Trail.{Tables, tables, counts, freshCounts, none, mostAccepted}
-use Rattle.rules.specs.Batch.{Batched, batchOf}
+use Rattle.rules.specs.Batch.{batchOf}
 use Rattle.rules.specs.Backward.{backwardOf}
 use Rattle.rules.specs.Forward.{forwardOf}
 use Rattle.rules.specs.KeptLog.{keptLogOf}

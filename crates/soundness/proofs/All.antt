@@ -9,7 +9,7 @@ use mathlib.Core.Bool.{Bool, true, false, _&&_}
 use mathlib.Core.List.{List, [], _∷_}
 use Rattle.rules.specs.Sound.{every, allBelow}
 
-and-parts : (a b : Bool) → a && b ≡ true → (a ≡ true) × (b ≡ true)
+pub and-parts : (a b : Bool) → a && b ≡ true → (a ≡ true) × (b ≡ true)
 and-parts true b h = (refl, h)
 and-parts false b h = absurd (let z : _≡_ {A = ℕ} 0 1 = cc in omega arith)
 
@@ -38,6 +38,10 @@ pub hold-every : {bs : List Bool} → Hold bs → every bs ≡ true
 unfolding every
 hold-every done = refl
 hold-every (e also h) = and-of _ _ e (hold-every h)
+
+-- what holds of n, and of each number below it
+pub below-next : (n : ℕ) (P : ℕ → Type 0) → P n → ((k : ℕ) → k < n → P k) → (k : ℕ) → k < n + 1 → P k
+below-next n P p q k l = let h : k ≤ n = omega arith in ⊎-elim (λ e. subst P (sym e) p) (λ i. q k i) (eq-or-lt-of-le h)
 
 module _ (p : ℕ → Bool) where
   pub all-at : (n : ℕ) → allBelow p n ≡ true → (k : ℕ) → k < n → p k ≡ true

@@ -10,9 +10,8 @@ use borrow.Author.Tests.{ne-eqb}
 use Rattle.rows.specs.declared.Counts.{Counts}
 use Rattle.rows.specs.declared.EdgeRow.{EdgeRow}
 use Rattle.rows.specs.Rows.{edgeAt}
-use Rattle.rules.specs.Trail.{trailOf, tables}
-use Rattle.rules.specs.Sound.{allBelow, timeBefore, edgeTest}
-use Rattle.soundness.specs.Parts.{edgeRowTest}
+use Rattle.rules.specs.Sound.{allBelow, timeBefore}
+use Rattle.soundness.specs.Parts.{codedEdge, codedTest}
 use Rattle.soundness.proofs.All.{all-stop, all-next}
 
 pub timeBefore-zero : (E : ℕ → EdgeRow) → 0 ≡ timeBefore E 0
@@ -27,17 +26,17 @@ timeBefore-suc E k =
     rw (z, m)
 
 -- edge k has row e, the one before it the time b, and the test gave r
-module _ (c : Counts) (es vs ds : List ℕ) (k : ℕ) (e : EdgeRow) (q : e ≡ edgeAt ds k) where
+module _ (c : Counts) (owners ds : List ℕ) (k : ℕ) (e : EdgeRow) (q : e ≡ edgeAt ds k) where
   pub time-next : e .time ≡ timeBefore (edgeAt ds) (k + 1)
   time-next = ap (λ (x : EdgeRow). x .time) q ∙ sym (rw (add-one k) (timeBefore-suc (edgeAt ds) k))
 
-  module _ (b : ℕ) (p : b ≡ timeBefore (edgeAt ds) k) (r : Bool) (g : r ≡ edgeRowTest c es vs b e) where
-    test-is : r ≡ edgeTest (trailOf c (tables es vs ds)) k
-    unfolding edgeTest edgeRowTest
+  module _ (b : ℕ) (p : b ≡ timeBefore (edgeAt ds) k) (r : Bool) (g : r ≡ codedEdge c owners b e) where
+    test-is : r ≡ codedTest c owners (edgeAt ds) k
+    unfolding codedTest
     test-is = g ∙ rw (p, q)
 
-    pub edges-stop : (n : ℕ) → k < n → r ≡ false → false ≡ allBelow (edgeTest (trailOf c (tables es vs ds))) n
+    pub edges-stop : (n : ℕ) → k < n → r ≡ false → false ≡ allBelow (codedTest c owners (edgeAt ds)) n
     edges-stop n l f = all-stop _ n k r l test-is f
 
-    pub edges-next : allBelow (edgeTest (trailOf c (tables es vs ds))) k ≡ true → r ≡ true → allBelow (edgeTest (trailOf c (tables es vs ds))) (k + 1) ≡ true
+    pub edges-next : allBelow (codedTest c owners (edgeAt ds)) k ≡ true → r ≡ true → allBelow (codedTest c owners (edgeAt ds)) (k + 1) ≡ true
     edges-next a f = all-next _ k r a test-is f

@@ -1,10 +1,14 @@
 -- Laws of tests, and of the loops that make them
 pub mod All
 pub mod Tests
+pub mod Versions
 pub mod Edges
 -- Sound tables are those whose rows have the facts
 pub mod Facts
 pub mod Passes
+-- The test of the edges by codes
+pub mod Coded
+pub mod Ready
 -- A record that is taken in, on rows by number
 pub mod Put
 pub mod Taken

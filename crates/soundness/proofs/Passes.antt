@@ -5,11 +5,11 @@ use mathlib.Core.Bool.{Bool, true, false}
 use lib.Dec.{eqb}
 use borrow.Author.Tests.{lt-ltb, le-leb, eq-eqb, ne-eqb, eqb-true, eqb-false}
 use Rattle.rows.specs.declared.Counts.{Counts}
+use Rattle.refusals.proofs.Checks.{not-true-of, pick-true, pick-false}
 use Rattle.rules.specs.Trail.{Capacity, Trail}
 use Rattle.rules.specs.Sound.{follows, timeBefore, soundCounts, soundEntity, soundPrevious, soundVersion, soundEdge, entityTest, versionTest, edgeTest, isSound}
 use Rattle.soundness.specs.Facts.{CountFacts, EntityFacts, VersionFacts, EdgeFacts, RowFacts}
 use Rattle.soundness.proofs.All.{done, _also_, hold-every, at-all}
-use Rattle.soundness.proofs.Tests.{not-true-of, pick-true, pick-false}
 use Rattle.soundness.proofs.Edges.{timeBefore-zero, timeBefore-suc}
 
 pub counts-pass : (cap : Capacity) (c : Counts) → CountFacts cap c → soundCounts cap c ≡ true

@@ -1,20 +1,57 @@
--- Parts of the test of sound tables that a single function computes.
-use Prim.Native.Nat.{ℕ}
-use mathlib.Core.Bool.{Bool}
+-- Parts of the test of sound tables that single functions compute. Edges are tested by the codes of the entities at their ends.
+use Prim.Native.Nat.{ℕ, _+_, _*_, _%_, _≤_, _<_}
+use mathlib.Core.Path.{_≡_}
+use mathlib.Core.Bool.{Bool, true, not}
 use mathlib.Core.List.{List, [], _∷_}
-use lib.Dec.{leb}
+use lib.ListN.{length, getD}
+use lib.Dec.{eqb, leb, ltb}
 use Rattle.rows.specs.declared.Counts.{Counts}
+use Rattle.rows.specs.declared.EntityRow.{EntityRow}
 use Rattle.rows.specs.declared.EdgeRow.{EdgeRow}
-use Rattle.rows.specs.Rows.{entityAt, versionAt}
-use Rattle.rules.specs.Sound.{every, follows, soundEdge}
+use Rattle.rows.specs.Rows.{entityAt}
+use Rattle.rows.specs.Capacity.{mostEntities, versionCapacity}
+use Rattle.record.specs.Layout.{mostKind, mostSort}
+use Rattle.rules.specs.Trail.{Tables, Trail, capacityOf, trailOf, ownerOf}
+use Rattle.rules.specs.Sound.{every, allBelow, soundCounts, entityTest, sourceFits, targetFits, follows, timeBefore}
 
--- the time of an edge after one at time b: "a time from 1 to last time; edge times rise strictly"
-unfoldable pub soundTime : Counts → ℕ → EdgeRow → Bool
-soundTime c b e = every (leb 1 (e .time) ∷ follows b (e .time) ∷ leb (e .time) (c .last) ∷ [])
+-- the code of entity x: twice its number, and its sort
+abbrev pub codeOf : (ℕ → EntityRow) → ℕ → ℕ
+codeOf E x = 2 * x + E x .sort
 
--- an edge of row e after one at time b, on the rows of the tables that it names
-unfoldable pub edgeRowTest : Counts → List ℕ → List ℕ → ℕ → EdgeRow → Bool
-edgeRowTest c entities versions b e =
-    let f = versionAt versions (e .from .0) in
-    let t = versionAt versions (e .to .0) in
-    soundEdge c b e f t (entityAt entities (f .entity .0)) (entityAt entities (t .entity .0))
+-- for each of the first n versions, the code of its entity
+abbrev pub Owners : Trail → ℕ → List ℕ → Type 0
+Owners T n owners = (k : ℕ) → k < n → getD owners k 0 ≡ codeOf (T .entity) (ownerOf T k)
+
+-- the counts and the entities passed, and there is a place for the code of each version's entity
+pub record RowsReady (c : Counts) (t : Tables) (owners : List ℕ) : Type 0 where
+  pub counts : soundCounts (capacityOf t) c ≡ true
+  pub entities : allBelow (entityTest (trailOf c t)) (c .entities) ≡ true
+  pub room : c .versions ≤ length owners
+
+-- what of that the test of the versions relies on
+pub record VersionsReady (c : Counts) (entities versions owners : List ℕ) : Type 0 where
+  pub entities-in : c .entities ≤ mostEntities
+  pub versions-in : c .versions ≤ versionCapacity versions
+  pub sorts : (x : ℕ) → x < c .entities → entityAt entities x .sort ≤ mostSort
+  pub room : c .versions ≤ length owners
+
+-- kind is one of an event, and asks for a source and a target of these sorts
+unfoldable pub sortsFit : ℕ → ℕ → ℕ → Bool
+sortsFit kind s t = every (leb 1 kind ∷ sourceFits kind s ∷ targetFits kind t ∷ [])
+
+-- an edge of row e after one at time b, from an entity of code x to one of code y, up to last
+unfoldable pub soundCodes : ℕ → ℕ → EdgeRow → ℕ → ℕ → Bool
+soundCodes last b e x y = every (sortsFit (e .kind) (x % 2) (y % 2) ∷ not (eqb x y) ∷ follows b (e .time) ∷ leb (e .time) last ∷ [])
+
+unfoldable pub codedEdge : Counts → List ℕ → ℕ → EdgeRow → Bool
+codedEdge c owners b e =
+    every
+    (ltb (e .from .0) (c .versions)
+    ∷ ltb (e .to .0) (c .versions)
+    ∷ leb (e .kind) mostKind
+    ∷ soundCodes (c .last) b e (getD owners (e .from .0) 0) (getD owners (e .to .0) 0)
+    ∷ [])
+
+-- the test of edge k
+unfoldable pub codedTest : Counts → List ℕ → (ℕ → EdgeRow) → ℕ → Bool
+codedTest c owners E k = codedEdge c owners (timeBefore E k) (E k)

@@ -4,13 +4,20 @@ use rows::EdgeNo;
 use rows::EdgeRow;
 use rows::EntityNo;
 use rows::EntityRow;
+use rows::MOST_VERSIONS;
 use rows::VersionNo;
 use rows::VersionRow;
 ghost use mathlib.Core.Path.{_≡_};
+ghost use mathlib.Core.Bool.{true};
 ghost use mathlib.Core.List.{[]};
+ghost use Prim.Native.Nat.{_≤_, _<_, _%_};
+ghost use lib.ListN.{length};
+ghost use Rattle.rows.specs.Rows.{entityAt, versionAt, edgeAt};
+ghost use Rattle.rows.specs.Capacity.{mostEntities, versionCapacity, edgeCapacity};
+ghost use Rattle.record.specs.Layout.{mostKind, mostSort};
 ghost use Rattle.rules.specs.Trail.{tables, capacityOf, trailOf};
-ghost use Rattle.rules.specs.Sound.{allBelow, sourceFits, targetFits, soundCounts, soundEntity, soundPrevious, soundVersion, soundEdge, entityTest, versionTest, edgeTest, isSound};
-ghost use Rattle.soundness.specs.Parts.{soundTime, edgeRowTest};
+ghost use Rattle.rules.specs.Sound.{allBelow, sourceFits, targetFits, soundCounts, soundEntity, soundPrevious, soundVersion, entityTest, versionTest, isSound};
+ghost use Rattle.soundness.specs.Parts.{codeOf, Owners, VersionsReady, RowsReady, sortsFit, soundCodes, codedEdge, codedTest};
 
 // The previous of a first version.
 pub const NONE: u32 = 0xFFFFFFFF;
@@ -27,6 +34,12 @@ const WRITE: u32 = 2;
 const FORK: u32 = 4;
 
 const MOST_KIND: u32 = 5;
+
+// Up to so many versions their codes are kept in a short array.
+const FEW_VERSIONS: u32 = 2048;
+
+// A hex digit for each kind, from 0 up: its bit 2 * s + t is set if the kind asks for sort s of the source and t of the target.
+const FITS: u32 = 0x282420;
 
 // Whether an entity of this sort may be the source of an event of this kind, or the target.
 pub fn source_fits(kind: u32, sort: u32) -> bool
@@ -63,9 +76,10 @@ fn entity_ok(c: Counts, n: EntityNo, r: EntityRow, v: VersionRow) -> bool
     v.entity.0 == n.0
 }
 
-// The rows v and p are of version n and of its previous.
-fn previous_ok(n: VersionNo, v: VersionRow, p: VersionRow) -> bool
-    ensures { λ z. ⌜ z ≡ soundPrevious (n .0) v p ⌝ }
+// The row v is of version n.
+fn previous_ok(versions: &[u32], n: VersionNo, v: VersionRow) -> bool
+    requires { ⌜ n .0 < versionCapacity (now versions) ⌝ }
+    ensures { λ z. ⌜ z ≡ soundPrevious (n .0) v (versionAt (now (versions .entry)) (v .previous .0)) ⌝ }
 {
     if v.start == 0 {
         return v.previous.0 == NONE;
@@ -73,14 +87,16 @@ fn previous_ok(n: VersionNo, v: VersionRow, p: VersionRow) -> bool
     if n.0 <= v.previous.0 {
         return false;
     }
+    let p = rows::version_in(versions, v.previous);
     if p.entity.0 != v.entity.0 {
         return false;
     }
     p.start < v.start
 }
 
-fn version_ok(c: Counts, n: VersionNo, v: VersionRow, p: VersionRow) -> bool
-    ensures { λ z. ⌜ z ≡ soundVersion c (n .0) v p ⌝ }
+fn version_ok(c: Counts, versions: &[u32], n: VersionNo, v: VersionRow) -> bool
+    requires { ⌜ n .0 < versionCapacity (now versions) ⌝ }
+    ensures { λ z. ⌜ z ≡ soundVersion c (n .0) v (versionAt (now (versions .entry)) (v .previous .0)) ⌝ }
 {
     if c.entities <= v.entity.0 {
         return false;
@@ -91,33 +107,39 @@ fn version_ok(c: Counts, n: VersionNo, v: VersionRow, p: VersionRow) -> bool
     if c.last < v.end {
         return false;
     }
-    previous_ok(n, v, p)
+    previous_ok(versions, n, v)
 }
 
-// The time of an edge after one at time before.
-fn time_ok(c: Counts, before: u32, e: EdgeRow) -> bool
-    ensures { λ z. ⌜ z ≡ soundTime c before e ⌝ }
+// The code of an entity: twice its number, and its sort.
+fn code(entities: &[u32], n: EntityNo) -> u16
+    requires { ⌜ (n .0 < mostEntities) × (entityAt (now entities) (n .0) .sort ≤ mostSort) ⌝ }
+    ensures { λ r. ⌜ r ≡ codeOf (entityAt (now (entities .entry))) (n .0) ⌝ }
 {
-    if e.time < 1 {
-        return false;
-    }
-    if e.time <= before {
-        return false;
-    }
-    e.time <= c.last
+    (2 * n.0 + rows::entity_sort(entities, n)) as u16
 }
 
-// The edge of row e after one at time before, from a version of row f to one of row t, whose entities have rows s and o.
-fn edge_ok(
-    c: Counts,
-    before: u32,
-    e: EdgeRow,
-    f: VersionRow,
-    t: VersionRow,
-    s: EntityRow,
-    o: EntityRow,
-) -> bool
-    ensures { λ z. ⌜ z ≡ soundEdge c before e f t s o ⌝ }
+// Whether kind asks for the sorts of a source of code a and a target of code b.
+fn sorts_fit(kind: u32, a: u16, b: u16) -> bool
+    requires { ⌜ kind ≤ mostKind ⌝ }
+    ensures { λ z. ⌜ z ≡ sortsFit kind (a % 2) (b % 2) ⌝ }
+{
+    let place = 4 * kind + 2 * ((a % 2) as u32) + ((b % 2) as u32);
+    (FITS >> place) % 2 == 1
+}
+
+// An edge of row e after one at time before, from an entity of code a to one of code b. No branch goes by the kind or a
+// sort: edges of all kinds are mixed.
+fn codes_ok(last: u32, before: u32, e: EdgeRow, a: u16, b: u16) -> bool
+    requires { ⌜ e .kind ≤ mostKind ⌝ }
+    ensures { λ z. ⌜ z ≡ soundCodes last before e a b ⌝ }
+{
+    sorts_fit(e.kind, a, b) & (a != b) & (before < e.time) & (e.time <= last)
+}
+
+// The row e is of an edge after one at time before; owners has the code of each version's entity.
+fn edge_ok(c: Counts, owners: &[u16], before: u32, e: EdgeRow) -> bool
+    requires { ⌜ c .versions ≤ length (now owners) ⌝ }
+    ensures { λ z. ⌜ z ≡ codedEdge c (now (owners .entry)) before e ⌝ }
 {
     if c.versions <= e.from.0 {
         return false;
@@ -125,22 +147,12 @@ fn edge_ok(
     if c.versions <= e.to.0 {
         return false;
     }
-    if f.entity.0 == t.entity.0 {
-        return false;
-    }
-    if e.kind < 1 {
-        return false;
-    }
     if MOST_KIND < e.kind {
         return false;
     }
-    if !source_fits(e.kind, s.sort) {
-        return false;
-    }
-    if !target_fits(e.kind, o.sort) {
-        return false;
-    }
-    time_ok(c, before, e)
+    let i = e.from.0 as usize;
+    let j = e.to.0 as usize;
+    codes_ok(c.last, before, e, owners[i], owners[j])
 }
 
 fn counts_ok(c: Counts, entities: &[u32], versions: &[u32], edges: &[u32]) -> bool
@@ -169,24 +181,6 @@ fn entity_test(c: Counts, entities: &[u32], versions: &[u32], k: u32) -> bool
     entity_ok(c, EntityNo(k), r, v)
 }
 
-fn version_test(c: Counts, versions: &[u32], k: u32) -> bool
-    ensures { λ z. ⌜ z ≡ versionTest (trailOf c (tables [] (now (versions .entry)) [])) k ⌝ }
-{
-    let v = rows::version_at(versions, VersionNo(k));
-    let p = rows::version_at(versions, v.previous);
-    version_ok(c, VersionNo(k), v, p)
-}
-
-fn edge_test(c: Counts, entities: &[u32], versions: &[u32], before: u32, e: EdgeRow) -> bool
-    ensures { λ z. ⌜ z ≡ edgeRowTest c (now (entities .entry)) (now (versions .entry)) before e ⌝ }
-{
-    let f = rows::version_at(versions, e.from);
-    let t = rows::version_at(versions, e.to);
-    let s = rows::entity_at(entities, f.entity);
-    let o = rows::entity_at(entities, t.entity);
-    edge_ok(c, before, e, f, t, s, o)
-}
-
 fn entities_ok(c: Counts, entities: &[u32], versions: &[u32]) -> bool
     ensures { λ z. ⌜ z ≡ allBelow (entityTest (trailOf c (tables (now (entities .entry)) (now (versions .entry)) []))) (c .entities) ⌝ }
 {
@@ -202,13 +196,19 @@ fn entities_ok(c: Counts, entities: &[u32], versions: &[u32]) -> bool
     true
 }
 
-fn versions_ok(c: Counts, versions: &[u32]) -> bool
-    ensures { λ z. ⌜ z ≡ allBelow (versionTest (trailOf c (tables [] (now (versions .entry)) []))) (c .versions) ⌝ }
+// Writes the code of each version's entity.
+fn versions_ok(c: Counts, entities: &[u32], versions: &[u32], owners: &mut [u16]) -> bool
+    requires { ⌜ VersionsReady c (now entities) (now versions) (now owners) ⌝ }
+    ensures { λ z. ⌜ z ≡ allBelow (versionTest (trailOf c (tables (now (entities .entry)) (now (versions .entry)) []))) (c .versions) ⌝ }
+    ensures { λ z. ⌜ (z ≡ true → Owners (trailOf c (tables (now (entities .entry)) (now (versions .entry)) [])) (c .versions) (now (owners .exit))) ⌝ }
 {
     let n = c.versions;
     let mut k: u32 = 0;
     while k < n {
-        if version_test(c, versions, k) {
+        let v = rows::version_in(versions, VersionNo(k));
+        if version_ok(c, versions, VersionNo(k), v) {
+            let i = k as usize;
+            owners[i] = code(entities, v.entity);
             k += 1;
         } else {
             return false;
@@ -218,15 +218,16 @@ fn versions_ok(c: Counts, versions: &[u32]) -> bool
 }
 
 // Keeps the time of the edge before.
-fn edges_ok(c: Counts, entities: &[u32], versions: &[u32], edges: &[u32]) -> bool
-    ensures { λ z. ⌜ z ≡ allBelow (edgeTest (trailOf c (tables (now (entities .entry)) (now (versions .entry)) (now (edges .entry))))) (c .edges) ⌝ }
+fn edges_ok(c: Counts, owners: &[u16], edges: &[u32]) -> bool
+    requires { ⌜ (c .versions ≤ length (now owners)) × (c .edges ≤ edgeCapacity (now edges)) ⌝ }
+    ensures { λ z. ⌜ z ≡ allBelow (codedTest c (now (owners .entry)) (edgeAt (now (edges .entry)))) (c .edges) ⌝ }
 {
     let n = c.edges;
     let mut before: u32 = 0;
     let mut k: u32 = 0;
     while k < n {
-        let e = rows::edge_at(edges, EdgeNo(k));
-        if edge_test(c, entities, versions, before, e) {
+        let e = rows::edge_in(edges, EdgeNo(k));
+        if edge_ok(c, owners, before, e) {
             before = e.time;
             k += 1;
         } else {
@@ -236,16 +237,32 @@ fn edges_ok(c: Counts, entities: &[u32], versions: &[u32], edges: &[u32]) -> boo
     true
 }
 
-// Whether the tables are sound.
+// The versions, and then the edges by the codes that the pass over the versions writes.
+fn rows_ok(c: Counts, entities: &[u32], versions: &[u32], edges: &[u32], owners: &mut [u16]) -> bool
+    requires { ⌜ RowsReady c (tables (now entities) (now versions) (now edges)) (now owners) ⌝ }
+    ensures { λ z. ⌜ z ≡ isSound (capacityOf (tables (now (entities .entry)) (now (versions .entry)) (now (edges .entry)))) (trailOf c (tables (now (entities .entry)) (now (versions .entry)) (now (edges .entry)))) ⌝ }
+{
+    if !versions_ok(c, entities, versions, owners) {
+        return false;
+    }
+    edges_ok(c, owners, edges)
+}
+
+// Whether the tables are sound. The codes of the versions' entities take 128 KB of stack; for few versions less of it is
+// cleared and used.
 pub fn is_sound(c: Counts, entities: &[u32], versions: &[u32], edges: &[u32]) -> bool
     ensures { λ z. ⌜ z ≡ isSound (capacityOf (tables (now (entities .entry)) (now (versions .entry)) (now (edges .entry)))) (trailOf c (tables (now (entities .entry)) (now (versions .entry)) (now (edges .entry)))) ⌝ }
 {
-    if counts_ok(c, entities, versions, edges) {
-        if entities_ok(c, entities, versions) {
-            if versions_ok(c, versions) {
-                return edges_ok(c, entities, versions, edges);
-            }
-        }
+    if !counts_ok(c, entities, versions, edges) {
+        return false;
     }
-    false
+    if !entities_ok(c, entities, versions) {
+        return false;
+    }
+    if c.versions <= FEW_VERSIONS {
+        let mut owners = [0u16; FEW_VERSIONS as usize];
+        return rows_ok(c, entities, versions, edges, &mut owners);
+    }
+    let mut owners = [0u16; MOST_VERSIONS as usize];
+    rows_ok(c, entities, versions, edges, &mut owners)
 }

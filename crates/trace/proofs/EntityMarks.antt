@@ -3,88 +3,70 @@ use Prim.Native.Nat.{ℕ, zero, suc, _+_, _≤_, _<_}
 use native.Mathlib.Numerals.{add-one}
 use native.Mathlib.Omega.{arith}
 use mathlib.Core.Path.{_≡_, refl, sym, _∙_, ap, subst}
-use mathlib.Core.Bool.{Bool, true, false, _&&_, _||_, cond}
-use mathlib.Core.List.{List, [], _∷_, _++_}
-use lib.ListN.{length, getD, set, take, replicate, List·getD-append}
-use lib.Seq.{set-append-left}
+use mathlib.Core.Bool.{Bool, true, false, cond}
+use mathlib.Core.List.{List, _++_}
+use lib.ListN.{length, getD, set, take, drop, replicate}
+use lib.Seq.{take-all}
 use lib.Dec.{eqb}
 use borrow.Author.Tests.{eqb-true, eqb-false}
-use Rattle.rows.specs.declared.EntityNo.{EntityNo}
+use Rattle.rows.specs.declared.Counts.{Counts}
 use Rattle.rows.specs.declared.VersionRow.{VersionRow}
-use Rattle.rules.specs.Marks.{hasMarked, marksBelow, ones}
+use Rattle.rules.specs.Marks.{marksBelow, ones}
 use Rattle.closure.proofs.Entities.{length-marksBelow, marksBelow-zero, marksBelow-marked, marksBelow-other}
 use Rattle.closure.proofs.Ones.{ones-take-suc}
-use Rattle.trace.specs.Owners.{ownerMarked, ownersMarked}
+use Rattle.trace.specs.Followed.{MarkedIf}
+use Rattle.trace.specs.Owners.{ownerMarked, ownersMarked, EntitiesMarked}
 
-module _ (W : ℕ → VersionRow) where
-  -- what stands after the marks of the versions does not matter
-  hasMarked-prefix : (work r : List ℕ) (x n : ℕ) → n ≤ length work → hasMarked W (work ++ r) x n ≡ hasMarked W work x n
-  unfolding hasMarked
-  hasMarked-prefix work r x zero l = refl
-  hasMarked-prefix work r x (suc k) l =
-      λ i. (eqb (W k .entity .0) x && eqb (List·getD-append work r 0 k l i) 1) || hasMarked-prefix work r x k (omega arith) i
+module _ (W : ℕ → VersionRow) (work : List ℕ) where
+  -- one version, by what was read of it
+  pub owner-marked : (k : ℕ) (m m′ : List ℕ) (row : VersionRow) (r c : Bool) → row ≡ W k → r ≡ eqb (getD work k 0) 1 → MarkedIf r (row .entity .0) m c m′
+      → m′ ≡ ownerMarked W work k m
+  unfolding ownerMarked
+  owner-marked k m m′ row r c e q w = w .marks ∙ (λ i. cond (q i) (set m (e i .entity .0) 1) m)
 
-  pub marksBelow-prefix : (work r : List ℕ) (n m : ℕ) → n ≤ length work → marksBelow W (work ++ r) n m ≡ marksBelow W work n m
-  unfolding marksBelow
-  marksBelow-prefix work r n zero l = refl
-  marksBelow-prefix work r n (suc x) l = λ i. marksBelow-prefix work r n x l i ++ (cond (hasMarked-prefix work r x n l i) 1 0 ∷ [])
+  -- the loop stands at k
+  pub owners-start : (m : List ℕ) → m ≡ ownersMarked W work 0 m
+  unfolding ownersMarked
+  owners-start m = refl
 
-  module _ (work : List ℕ) where
-    -- one version
-    module _ (k : ℕ) (m : List ℕ) (r : Bool) (q : r ≡ eqb (getD work k 0) 1) where
-      pub owner-marked : (x : EntityNo) (m′ : List ℕ) → x ≡ W k .entity → m′ ≡ set m (x .0) 1 → r ≡ true → m′ ≡ ownerMarked W work k m
-      unfolding ownerMarked
-      owner-marked x m′ e p h = rw (← q, h, ← e) p
-
-      pub owner-other : r ≡ false → m ≡ ownerMarked W work k m
-      unfolding ownerMarked
-      owner-other h = rw (← q, h)
-
-    -- the loop stands at k
-    pub owners-start : (m : List ℕ) → m ≡ ownersMarked W work 0 m
+  module _ (k : ℕ) (m₀ m : List ℕ) (i : m ≡ ownersMarked W work k m₀) where
+    pub owners-next : (m′ : List ℕ) → m′ ≡ ownerMarked W work k m → m′ ≡ ownersMarked W work (k + 1) m₀
     unfolding ownersMarked
-    owners-start m = refl
+    owners-next m′ q = q ∙ ap (ownerMarked W work k) i ∙ ap (λ j. ownersMarked W work j m₀) (sym (add-one k))
 
-    module _ (k : ℕ) (m₀ m : List ℕ) (i : m ≡ ownersMarked W work k m₀) where
-      pub owners-next : (m′ : List ℕ) → m′ ≡ ownerMarked W work k m → m′ ≡ ownersMarked W work (k + 1) m₀
-      unfolding ownersMarked
-      owners-next m′ q = q ∙ ap (ownerMarked W work k) i ∙ ap (λ j. ownersMarked W work j m₀) (sym (add-one k))
+    pub owners-end : (n : ℕ) → k ≤ n → n ≤ k → m ≡ ownersMarked W work n m₀
+    owners-end n l h = let q : k ≡ n = omega arith in subst (λ j. m ≡ ownersMarked W work j m₀) q i
 
-      pub owners-end : (n : ℕ) → k ≤ n → n ≤ k → m ≡ ownersMarked W work n m₀
-      owners-end n l h = let q : k ≡ n = omega arith in subst (λ j. m ≡ ownersMarked W work j m₀) q i
+  -- of a cleared buffer for e entities
+  owners-below : (e n : ℕ) → ownersMarked W work n (replicate e 0) ≡ marksBelow W work n e
+  unfolding ownersMarked ownerMarked
+  owners-below e zero = marksBelow-zero W work e
+  owners-below e (suc k) = go (eqb (getD work k 0) 1) refl (owners-below e k)
+    where
+      go : (b : Bool) → eqb (getD work k 0) 1 ≡ b → ownersMarked W work k (replicate e 0) ≡ marksBelow W work k e
+          → cond b (set (ownersMarked W work k (replicate e 0)) (W k .entity .0) 1) (ownersMarked W work k (replicate e 0)) ≡ marksBelow W work (suc k) e
+      go true q ih = ap (λ m. set m (W k .entity .0) 1) ih ∙ marksBelow-marked W work k e (eqb-true _ _ q)
+      go false q ih = ih ∙ marksBelow-other W work k e (eqb-false _ _ q)
 
-    pub owners-of : (n : ℕ) (m₀ m m′ : List ℕ) → m ≡ m₀ → m′ ≡ ownersMarked W work n m → m′ ≡ ownersMarked W work n m₀
-    owners-of n m₀ m m′ p q = q ∙ ap (ownersMarked W work n) p
-
-    -- of a cleared buffer for e entities
-    pub owners-below : (e : ℕ) (r : List ℕ) (n : ℕ) → ((k : ℕ) → k < n → W k .entity .0 < e) → ownersMarked W work n (replicate e 0 ++ r) ≡ marksBelow W work n e ++ r
-    unfolding ownersMarked ownerMarked
-    owners-below e r zero h = ap (λ m. m ++ r) (marksBelow-zero W work e)
-    owners-below e r (suc k) h = go (eqb (getD work k 0) 1) refl (owners-below e r k (λ j l. h j (omega arith)))
-      where
-        go : (b : Bool) → eqb (getD work k 0) 1 ≡ b → ownersMarked W work k (replicate e 0 ++ r) ≡ marksBelow W work k e ++ r
-            → cond b (set (ownersMarked W work k (replicate e 0 ++ r)) (W k .entity .0) 1) (ownersMarked W work k (replicate e 0 ++ r)) ≡ marksBelow W work (suc k) e ++ r
-        go true q ih =
-            ap (λ m. set m (W k .entity .0) 1) ih
-            ∙ set-append-left (marksBelow W work k e) r (W k .entity .0) 1 (omega (arith, length-marksBelow W work k e, h k (omega arith)))
-            ∙ ap (λ m. m ++ r) (marksBelow-marked W work k e (eqb-true _ _ q))
-        go false q ih = ih ∙ ap (λ m. m ++ r) (marksBelow-other W work k e (eqb-false _ _ q))
+  pub owners-of : (n e : ℕ) (m₀ m m′ : List ℕ) → e ≡ length m₀ → m ≡ replicate (length m₀) 0 → m′ ≡ ownersMarked W work n m → m′ ≡ marksBelow W work n e
+  owners-of n e m₀ m m′ l p q = q ∙ ap (ownersMarked W work n) (p ∙ ap (λ j. replicate j 0) (sym l)) ∙ owners-below e n
 
 -- the count
-
-pub bit-one : (x : ℕ) (r : Bool) → r ≡ eqb x 1 → r ≡ true → _≡_ {A = ℕ} 1 (cond (eqb x 1) 1 0)
-bit-one x r q h = rw (← q, h)
-
-pub bit-zero : (x : ℕ) (r : Bool) → r ≡ eqb x 1 → r ≡ false → _≡_ {A = ℕ} 0 (cond (eqb x 1) 1 0)
-bit-zero x r q h = rw (← q, h)
 
 pub count-start : (m : List ℕ) → 0 ≡ ones (take 0 m)
 unfolding ones
 count-start m = refl
 
 module _ (m : List ℕ) (i c : ℕ) (q : c ≡ ones (take i m)) where
-  pub count-next : (n b : ℕ) → i < n → n ≤ length m → b ≡ cond (eqb (getD m i 0) 1) 1 0 → c + b ≡ ones (take (i + 1) m)
+  pub count-next : (n b : ℕ) → i < n → n ≡ length m → b ≡ cond (eqb (getD m i 0) 1) 1 0 → c + b ≡ ones (take (i + 1) m)
   count-next n b l h e = omega (arith, ones-take-suc m i (omega arith), ap (λ j. ones (take j m)) (add-one i))
 
-  pub count-end : (n : ℕ) → i ≤ n → n ≤ i → c ≡ ones (take n m)
-  count-end n l h = let z : i ≡ n = omega arith in subst (λ j. c ≡ ones (take j m)) z q
+  pub count-end : (n : ℕ) → n ≡ length m → n ≤ i → c ≡ ones m
+  count-end n l h = q ∙ ap ones (take-all i m (omega arith))
+
+-- in the lent buffer
+pub entities-marked : (c : Counts) (W : ℕ → VersionRow) (work m g : List ℕ) (r : ℕ) → r ≡ ones g → g ≡ marksBelow W work (c .versions) (c .entities)
+    → EntitiesMarked c W work m r (g ++ drop (c .entities) m)
+entities-marked c W work m g r p q =
+    let b = marksBelow W work (c .versions) (c .entities) in
+    record { count = p ∙ ap ones q; marks = ap (λ x. x ++ drop (c .entities) m) q ∙ ap (λ j. b ++ drop j m) (sym (length-marksBelow W work (c .versions) (c .entities))) }

@@ -4,19 +4,16 @@ use native.Mathlib.Omega.{arith}
 use mathlib.Core.Path.{_≡_, refl, sym, _∙_, ap}
 use mathlib.Core.Logic.{_⊎_, inl, inr}
 use mathlib.Core.Bool.{Bool, true, false, _&&_, _||_, not, cond, or-false, or-assoc}
+use mathlib.Mathlib.Data.Bool.Basic.{or-eq-false-eq-eq-false-and-eq-false}
 use mathlib.Core.List.{List, [], _∷_, _++_, List·Memᴰ, List·Memᴰ·cases-cons, List·Memᴰ·not-nil}
 use lib.ListN.{getD, set}
 use lib.Dec.{eqb}
 use borrow.Author.Tests.{eqb-true}
 use Rattle.rules.specs.Marks.{Arc, arc, follow, pass, passes}
 use Rattle.closure.proofs.Marks.{set-marked}
-use Rattle.closure.proofs.Passes.{keeps-pass, keeps-passes}
+use Rattle.closure.proofs.Passes.{keeps-passes}
 use Rattle.trace.specs.Followed.{MarkedIf, fires, changes, Followed}
 use Rattle.trace.specs.TraceArcs.{when}
-
-or-none : (a b : Bool) → (a || b) ≡ false → (a ≡ false) × (b ≡ false)
-or-none true b h = absurd (let z : _≡_ {A = ℕ} 0 1 = cc in omega arith)
-or-none false b h = (refl, h)
 
 -- an arc that adds no mark changes nothing
 follow-still : (a : Arc) (m : List ℕ) → fires a m ≡ false → follow a m ≡ m
@@ -81,22 +78,17 @@ followed-append xs ys m m′ m″ c d e f g q =
     let r : d ≡ changes ys (pass xs m) = g .changed ∙ ap (changes ys) (f .marks) in
     record { changed = q ∙ (λ i. f .changed i || r i) ∙ sym (changes-append xs ys m); marks = p ∙ sym (pass-append xs ys m) }
 
--- a pass that adds no mark changes nothing, and then no number of passes does
+-- a pass that adds no mark changes nothing
 module _ (arcs : List Arc) (m : List ℕ) (h : changes arcs m ≡ false) where
   unfired : (xs : List Arc) → changes xs m ≡ false → (a : Arc) → List·Memᴰ a xs → follow a m ≡ m
   unfolding changes
   unfired [] z a k = absurd (List·Memᴰ·not-nil k)
-  unfired (x ∷ xs) z a k = go (or-none (fires x m) (changes xs (follow x m)) z) (List·Memᴰ·cases-cons k) (λ y k′. unfired xs y a k′)
+  unfired (x ∷ xs) z a k = go (or-eq-false-eq-eq-false-and-eq-false (fires x m) (changes xs (follow x m)) .0 z) (List·Memᴰ·cases-cons k) (λ y k′. unfired xs y a k′)
     where
       go : (fires x m ≡ false) × (changes xs (follow x m) ≡ false) → (a ≡ x) ⊎ List·Memᴰ a xs → (changes xs m ≡ false → List·Memᴰ a xs → follow a m ≡ m) → follow a m ≡ m
       go (p, q) (inl e) r = rw e (follow-still x m p)
       go (p, q) (inr k′) r = r (ap (changes xs) (sym (follow-still x m p)) ∙ q) k′
 
-  stays : (a : Arc) → List·Memᴰ a arcs → (l : List ℕ) → l ≡ m → follow a l ≡ m
-  stays a k l q = ap (follow a) q ∙ unfired arcs h a k
-
-  pub pass-still : pass arcs m ≡ m
-  pass-still = keeps-pass (λ l. l ≡ m) arcs stays m refl
-
-  pub passes-still : (n : ℕ) → passes n arcs m ≡ m
-  passes-still n = keeps-passes (λ l. l ≡ m) arcs stays n m refl
+  -- nor do passes over some of its arcs
+  pub passes-still : (xs : List Arc) → ((a : Arc) → List·Memᴰ a xs → List·Memᴰ a arcs) → (n : ℕ) → passes n xs m ≡ m
+  passes-still xs i n = keeps-passes (λ l. l ≡ m) xs (λ a k l q. ap (follow a) q ∙ unfired arcs h a (i a k)) n m refl

@@ -3,10 +3,10 @@ use Prim.Native.Nat.{ℕ, zero, suc, _-_, _≤_, _<_}
 use native.Mathlib.Omega.{arith}
 use native.Mathlib.Decide.{ℕ-discrete}
 use mathlib.Core.Path.{_≡_, refl, sym, _∙_, ap, subst}
-use mathlib.Core.Bool.{Bool, true, false, _&&_, cond}
-use lib.Dec.{eqb, leb}
-use borrow.Author.Tests.{eqb-true, leb-true, eq-eqb, ne-eqb, le-leb}
-use Rattle.rows.specs.declared.VersionNo.{VersionNo}
+use mathlib.Core.Logic.{inl, inr}
+use mathlib.Core.Bool.{Bool, true, false, cond}
+use lib.Dec.{leb}
+use borrow.Author.Tests.{eq-eqb, ne-eqb}
 use Rattle.rows.specs.declared.EdgeNo.{EdgeNo}
 use Rattle.rows.specs.declared.VersionRow.{VersionRow}
 use Rattle.rows.specs.declared.EdgeRow.{EdgeRow}
@@ -15,20 +15,20 @@ use Rattle.rules.specs.declared.Found.the-variants.{At, Nothing}
 use Rattle.rules.specs.Trail.{Trail}
 use Rattle.rules.specs.Decide.{edgeNo}
 use Rattle.rules.specs.Start.{intakeOf}
+use Rattle.rules.proofs.Intake.{ByCase, by-cases, Enters}
 use Rattle.soundness.specs.Facts.{RowFacts}
-use Rattle.closure.specs.Intake.{Enters}
 use Rattle.closure.proofs.Intake.{intake-start, intake-last}
 use Rattle.trace.specs.Intake.{entersBy, lastInto, timeOr, lastIntake}
 
--- one edge, by what was read of it
-module _ (e : EdgeRow) (s t : ℕ) (to : VersionNo) (q : to ≡ e .to) where
-  pub enters-time : (x : ℕ) (b : Bool) → to .0 ≡ s → x ≡ e .time → b ≡ leb x t → b ≡ entersBy s t e
+-- one edge
+module _ (s t : ℕ) (e : EdgeRow) where
+  pub enters-time : (b : Bool) → e .to .0 ≡ s → b ≡ leb (e .time) t → b ≡ entersBy s t e
   unfolding entersBy
-  enters-time x b h r z = rw (← q, eq-eqb (to .0) s h, ← r) z
+  enters-time b h z = rw (eq-eqb (e .to .0) s h) z
 
-  pub enters-other : (to .0 ≡ s → ⊥) → false ≡ entersBy s t e
+  pub enters-other : (e .to .0 ≡ s → ⊥) → false ≡ entersBy s t e
   unfolding entersBy
-  enters-other h = rw (← q, ne-eqb (to .0) s h)
+  enters-other h = rw (ne-eqb (e .to .0) s h)
 
 -- the search stands at k
 pub record Looks (E : ℕ → EdgeRow) (s t n k : ℕ) : Type 0 where
@@ -38,12 +38,12 @@ pub looks-start : (E : ℕ → EdgeRow) (s t n : ℕ) → Looks E s t n n
 looks-start E s t n = record { rest = refl }
 
 module _ (E : ℕ → EdgeRow) (s t n k : ℕ) (i : Looks E s t n k) where
-  module _ (l : 0 < k) (b : Bool) (q : b ≡ entersBy s t (E (k - 1))) where
+  module _ (l : 0 < k) (e : EdgeRow) (r : e ≡ E (k - 1)) (b : Bool) (q : b ≡ entersBy s t e) where
     step : lastInto E s t n ≡ cond b (At (edgeNo (k - 1))) (lastInto E s t (k - 1))
     unfolding lastInto
     step =
         let z : k ≡ suc (k - 1) = omega arith in
-        sym (i .rest) ∙ ap (lastInto E s t) z ∙ ap (λ c. cond c (At (edgeNo (k - 1))) (lastInto E s t (k - 1))) (sym q)
+        sym (i .rest) ∙ ap (lastInto E s t) z ∙ ap (λ c. cond c (At (edgeNo (k - 1))) (lastInto E s t (k - 1))) (sym (q ∙ ap (entersBy s t) r))
 
     pub looks-found : b ≡ true → At (edgeNo (k - 1)) ≡ lastInto E s t n
     looks-found h = sym (step ∙ ap (λ c. cond c (At (edgeNo (k - 1))) (lastInto E s t (k - 1))) h)
@@ -66,35 +66,19 @@ module _ (W : ℕ → VersionRow) (E : ℕ → EdgeRow) (s t n : ℕ) (o : Found
   intake-none x h e = e ∙ ap (timeOr E (W s .start)) (sym h ∙ q)
 
 module _ (T : Trail) (f : RowFacts T) (s t : ℕ) where
-  enters-true : (k : ℕ) → k < T .counts .edges → entersBy s t (T .edge k) ≡ true → Enters T s t k
-  unfolding entersBy
-  enters-true k l q = go (eqb (T .edge k .to .0) s) (leb (T .edge k .time) t) refl refl q
-    where
-      go : (a b : Bool) → eqb (T .edge k .to .0) s ≡ a → leb (T .edge k .time) t ≡ b → (a && b) ≡ true → Enters T s t k
-      go true true p r z = record { exists = l; to = eqb-true _ _ p; by = leb-true _ _ r }
-      go true false p r z = absurd (let y : _≡_ {A = ℕ} 0 1 = cc in omega arith)
-      go false b p r z = absurd (let y : _≡_ {A = ℕ} 0 1 = cc in omega arith)
-
-  enters-false : (k : ℕ) → entersBy s t (T .edge k) ≡ false → Enters T s t k → ⊥
-  unfolding entersBy
-  enters-false k q e =
-      let h : true ≡ false = rw (eq-eqb _ _ (e .to), le-leb _ _ (e .by)) at q in
-      let y : _≡_ {A = ℕ} 0 1 = cc in
-      omega arith
-
   last-is : (n : ℕ) → n ≤ T .counts .edges → ((j : ℕ) → n ≤ j → Enters T s t j → ⊥) → timeOr (T .edge) (T .version s .start) (lastInto (T .edge) s t n) ≡ intakeOf T s t
-  unfolding lastInto
+  unfolding lastInto entersBy
   last-is zero l none = sym (intake-start T s t (λ k. none k (omega arith)))
-  last-is (suc k) l none = go (entersBy s t (T .edge k)) refl (λ h. last-is k (omega arith) h)
+  last-is (suc k) l none = go (by-cases (T .edge k .to .0) s (T .edge k .time) t) (λ h. last-is k (omega arith) h)
     where
-      go : (b : Bool) → entersBy s t (T .edge k) ≡ b
+      go : ByCase (T .edge k .to .0) s (T .edge k .time) t
           → (((j : ℕ) → k ≤ j → Enters T s t j → ⊥) → timeOr (T .edge) (T .version s .start) (lastInto (T .edge) s t k) ≡ intakeOf T s t)
-          → timeOr (T .edge) (T .version s .start) (cond b (At (edgeNo k)) (lastInto (T .edge) s t k)) ≡ intakeOf T s t
-      go true q ih = sym (intake-last T f s t k (enters-true k l q) (λ j h. none j h))
-      go false q ih = ih (λ j h. by j h (ℕ-discrete j k))
+          → timeOr (T .edge) (T .version s .start) (cond (entersBy s t (T .edge k)) (At (edgeNo k)) (lastInto (T .edge) s t k)) ≡ intakeOf T s t
+      go (inl c) ih = rw (c .2) (sym (intake-last T f s t k (record { exists = l; to = c .0; by = c .1 }) (λ j h. none j h)))
+      go (inr c) ih = rw (c .1) (ih (λ j h. by j h (ℕ-discrete j k)))
         where
           by : (j : ℕ) → k ≤ j → Dec (j ≡ k) → Enters T s t j → ⊥
-          by j h (yes e) d = enters-false k q (subst (Enters T s t) e d)
+          by j h (yes e) d = let i = subst (Enters T s t) e d in c .0 (i .to) (i .by)
           by j h (no e) d = none j (omega arith) d
 
   pub lastIntake-is : lastIntake (T .version) (T .edge) s t (T .counts .edges) ≡ intakeOf T s t

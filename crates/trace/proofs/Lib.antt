@@ -3,11 +3,10 @@ pub mod Bytes
 -- passes over arcs, as code makes them
 pub mod Followed
 pub mod Loops
+pub mod Members
 pub mod BackArcs
 pub mod OnArcs
 -- the same marks as in document 01
-pub mod Members
-pub mod Prefix
 pub mod BackMarks
 pub mod OnMarks
 pub mod EntityMarks

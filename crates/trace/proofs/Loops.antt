@@ -4,11 +4,11 @@ use native.Mathlib.Numerals.{add-one}
 use native.Mathlib.Omega.{arith}
 use mathlib.Core.Path.{_≡_, refl, sym, _∙_, ap, subst}
 use mathlib.Core.Bool.{Bool, false, _||_, or-false, or-assoc}
-use mathlib.Core.List.{List}
-use lib.ListN.{set}
-use Rattle.rules.specs.Marks.{Arc, pass, passes}
+use mathlib.Core.List.{List, [], _∷_, List·Memᴰ}
+use lib.ListN.{length, set, replicate}
+use Rattle.rules.specs.Marks.{Arc, pass, passes, seeded}
 use Rattle.trace.specs.Followed.{changes, Followed, down, up}
-use Rattle.trace.proofs.Followed.{followed-none, pass-append, changes-append, followed-append, pass-still, passes-still}
+use Rattle.trace.proofs.Followed.{followed-none, pass-append, changes-append, followed-append, passes-still}
 
 below : (k : ℕ) → 0 < k → k ≡ suc (k - 1)
 below k l = omega arith
@@ -59,6 +59,11 @@ module _ (A : ℕ → List Arc) (m₀ : List ℕ) (k : ℕ) (c : Bool) (m : List
   pub ascends-end : (n : ℕ) → k ≤ n → n ≤ k → Followed (up A n) m₀ c m
   ascends-end n l h = let q : k ≡ n = omega arith in subst (λ j. Followed (up A j) m₀ c m) q i
 
+-- a pass that adds no mark
+adds-none : (arcs : List Arc) (m : List ℕ) (c : Bool) (m′ : List ℕ) → Followed arcs m c m′ → c ≡ false → m′ ≡ m
+unfolding passes
+adds-none arcs m c m′ f h = f .marks ∙ passes-still arcs m (sym (f .changed) ∙ h) arcs (λ a k. k) 1
+
 -- passes, of which j are left
 module _ (arcs : List Arc) (n : ℕ) (m₀ : List ℕ) (j : ℕ) (m : List ℕ) (i : passes j arcs m ≡ passes n arcs m₀) where
   module _ (c : Bool) (m′ : List ℕ) (f : Followed arcs m c m′) where
@@ -70,14 +75,31 @@ module _ (arcs : List Arc) (n : ℕ) (m₀ : List ℕ) (j : ℕ) (m : List ℕ) 
         go k z = ap (passes k arcs) (f .marks) ∙ subst (λ x. passes x arcs m ≡ passes n arcs m₀) z i
 
     pub passes-stop : c ≡ false → m′ ≡ passes n arcs m₀
-    passes-stop h =
-        let z : changes arcs m ≡ false = sym (f .changed) ∙ h in
-        f .marks ∙ pass-still arcs m z ∙ sym (passes-still arcs m z j) ∙ i
+    passes-stop h = let z = sym (f .changed) ∙ h in adds-none arcs m c m′ f h ∙ sym (passes-still arcs m z arcs (λ a k. k) j) ∙ i
 
   pub passes-end : j ≤ 0 → m ≡ passes n arcs m₀
   unfolding passes
   passes-end l = let z : j ≡ 0 = omega arith in subst (λ x. passes x arcs m ≡ passes n arcs m₀) z i
 
--- passes from a buffer with one more mark
-pub passes-seeded : (n s : ℕ) (arcs : List Arc) (m₀ m₁ m₂ m₃ : List ℕ) → m₁ ≡ m₀ → m₂ ≡ set m₁ s 1 → m₃ ≡ passes n arcs m₂ → m₃ ≡ passes n arcs (set m₀ s 1)
-passes-seeded n s arcs m₀ m₁ m₂ m₃ p q r = r ∙ ap (passes n arcs) (q ∙ ap (λ m. set m s 1) p)
+-- a cleared buffer with one mark, and a first pass from there
+module _
+    (n s : ℕ)
+    (xs ys : List Arc)
+    (m₀ m₁ m₂ m₃ : List ℕ)
+    (c : Bool)
+    (l : n ≡ length m₀)
+    (p : m₁ ≡ replicate (length m₀) 0)
+    (q : m₂ ≡ set m₁ s 1)
+    (f : Followed xs m₂ c m₃)
+  where
+    begun : m₂ ≡ seeded n (s ∷ [])
+    unfolding seeded
+    begun = q ∙ ap (λ m. set m s 1) (p ∙ ap (λ j. replicate j 0) (sym l))
+
+    pub later-passes : (m : List ℕ) → m ≡ passes n ys m₃ → m ≡ passes n ys (pass xs (seeded n (s ∷ [])))
+    later-passes m r = r ∙ ap (passes n ys) (f .marks ∙ ap (pass xs) begun)
+
+    pub no-later-pass : ((a : Arc) → List·Memᴰ a ys → List·Memᴰ a xs) → c ≡ false → m₃ ≡ passes n ys (pass xs (seeded n (s ∷ [])))
+    no-later-pass i h =
+        let e = adds-none xs m₂ c m₃ f h in
+        later-passes m₃ (e ∙ sym (passes-still xs m₂ (sym (f .changed) ∙ h) ys i n) ∙ ap (passes n ys) (sym e))

@@ -66,45 +66,59 @@ module _ (A : ℕ → List Arc) (x : Arc) where
           from (inl z) = Memᴰ·append-left (A n) (ih .1 z)
           from (inr k) = Memᴰ·append-right (up A n) k
 
--- d edges, of which k gives an arc g k where p k holds, and n versions, of which v gives h v where o v holds; edge k enters
--- version e k, and the list L of the arcs of the first numbers is in any order
+append-in : (x : Arc) (as′ bs cs ds : List Arc) → (List·Memᴰ x as′ → List·Memᴰ x cs) → (List·Memᴰ x bs → List·Memᴰ x ds) → List·Memᴰ x (as′ ++ bs) → List·Memᴰ x (cs ++ ds)
+append-in x as′ bs cs ds f g m = go (List·Memᴰ·append-cases as′ m)
+  where
+    go : List·Memᴰ x as′ ⊎ List·Memᴰ x bs → List·Memᴰ x (cs ++ ds)
+    go (inl k) = Memᴰ·append-left ds (f k)
+    go (inr k) = Memᴰ·append-right cs (g k)
+
+-- the list L of the arcs of the first numbers is in any order
 module _
     (L : (ℕ → List Arc) → ℕ → List Arc)
     (L-iff : (A : ℕ → List Arc) (x : Arc) (n : ℕ) → List·Memᴰ x (L A n) ↔ ((k : ℕ) × (k < n) × List·Memᴰ x (A k)))
-    (p o : ℕ → Bool)
-    (g h : ℕ → Arc)
-    (e : ℕ → ℕ)
-    (d n : ℕ)
-    (entered : (k : ℕ) → k < d → e k < n)
     (x : Arc)
   where
-    abbrev step : ℕ → List Arc
-    step v = when (o v) (h v)
+    -- a pass with more arcs at the edges has those of the pass without them
+    pub with-more : (A B : ℕ → List Arc) (d : ℕ) (steps : List Arc) → List·Memᴰ x (L A d ++ steps) → List·Memᴰ x (L (λ k. A k ++ B k) d ++ steps)
+    with-more A B d steps =
+        append-in x (L A d) steps (L (λ k. A k ++ B k) d) steps (λ m. let z = L-iff A x d .0 m in L-iff (λ k. A k ++ B k) x d .1 (z .0, z .1, Memᴰ·append-left (B (z .0)) (z .2)))
+        (λ m. m)
 
-    abbrev edge : ℕ → List Arc
-    edge k = when (p k) (g k) ++ step (e k)
+    -- one arc for each number that passes a test
+    tested-iff : (p : ℕ → Bool) (g : ℕ → Arc) (n : ℕ) → List·Memᴰ x (L (λ k. when (p k) (g k)) n) ↔ List·Memᴰ x (collected p g n)
+    tested-iff p g n = (
+      λ m.
+          let z = L-iff (λ k. when (p k) (g k)) x n .0 m in
+          let w = mem-when (p (z .0)) (g (z .0)) x (z .2) in
+          collected-iff p g n x .1 (z .0, z .1, w .0, w .1),
+      λ m. let z = collected-iff p g n x .0 m in L-iff (λ k. when (p k) (g k)) x n .1 (z .0, z .1, when-mem (p (z .0)) (g (z .0)) x (z .2) (z .3)),
+    )
 
-    abbrev Collected : Type 0
-    Collected = List·Memᴰ x (collected p g d ++ collected o h n)
+    -- d edges, of which k gives an arc g k where p k holds and enters version e k, and n versions, of which v gives h v where
+    -- o v holds
+    module _ (p o : ℕ → Bool) (g h : ℕ → Arc) (d n : ℕ) (e : ℕ → ℕ) (entered : (k : ℕ) → k < d → e k < n) where
+      abbrev step : ℕ → List Arc
+      step v = when (o v) (h v)
 
-    of-step : (v : ℕ) → v < n → List·Memᴰ x (step v) → Collected
-    of-step v l m = let z = mem-when (o v) (h v) x m in Memᴰ·append-right (collected p g d) (collected-iff o h n x .1 (v, l, z .0, z .1))
+      abbrev edge : ℕ → List Arc
+      edge k = when (p k) (g k) ++ step (e k)
 
-    of-edge : (k : ℕ) → k < d → List·Memᴰ x (when (p k) (g k)) ⊎ List·Memᴰ x (step (e k)) → Collected
-    of-edge k l (inl m) = let z = mem-when (p k) (g k) x m in Memᴰ·append-left (collected o h n) (collected-iff p g d x .1 (k, l, z .0, z .1))
-    of-edge k l (inr m) = of-step (e k) (entered k l) m
+      abbrev Collected : Type 0
+      Collected = List·Memᴰ x (collected p g d ++ collected o h n)
 
-    to : List·Memᴰ x (L edge d) ⊎ List·Memᴰ x (L step n) → Collected
-    to (inl m) = let z = L-iff edge x d .0 m in of-edge (z .0) (z .1) (List·Memᴰ·append-cases (when (p (z .0)) (g (z .0))) (z .2))
-    to (inr m) = let z = L-iff step x n .0 m in of-step (z .0) (z .1) (z .2)
+      of-edge : (k : ℕ) → k < d → List·Memᴰ x (when (p k) (g k)) ⊎ List·Memᴰ x (step (e k)) → Collected
+      of-edge k l (inl m) = let z = mem-when (p k) (g k) x m in Memᴰ·append-left (collected o h n) (collected-iff p g d x .1 (k, l, z .0, z .1))
+      of-edge k l (inr m) = let z = mem-when (o (e k)) (h (e k)) x m in Memᴰ·append-right (collected p g d) (collected-iff o h n x .1 (e k, entered k l, z .0, z .1))
 
-    from : List·Memᴰ x (collected p g d) ⊎ List·Memᴰ x (collected o h n) → List·Memᴰ x (L edge d ++ L step n)
-    from (inl m) =
-        let z = collected-iff p g d x .0 m in
-        Memᴰ·append-left (L step n) (L-iff edge x d .1 (z .0, z .1, Memᴰ·append-left (step (e (z .0))) (when-mem (p (z .0)) (g (z .0)) x (z .2) (z .3))))
-    from (inr m) =
-        let z = collected-iff o h n x .0 m in
-        Memᴰ·append-right (L edge d) (L-iff step x n .1 (z .0, z .1, when-mem (o (z .0)) (h (z .0)) x (z .2) (z .3)))
+      of-first : List·Memᴰ x (L edge d) ⊎ List·Memᴰ x (L step n) → Collected
+      of-first (inl m) = let z = L-iff edge x d .0 m in of-edge (z .0) (z .1) (List·Memᴰ·append-cases (when (p (z .0)) (g (z .0))) (z .2))
+      of-first (inr m) = Memᴰ·append-right (collected p g d) (tested-iff o h n .0 m)
 
-    pub arcs-iff : List·Memᴰ x (L (λ k. when (p k) (g k) ++ when (o (e k)) (h (e k))) d ++ L (λ v. when (o v) (h v)) n) ↔ List·Memᴰ x (collected p g d ++ collected o h n)
-    arcs-iff = (λ m. to (List·Memᴰ·append-cases (L edge d) m), λ m. from (List·Memᴰ·append-cases (collected p g d) m))
+      -- the first pass follows no others, each later one follows all
+      pub arcs-of : (List·Memᴰ x (L (λ k. when (p k) (g k) ++ when (o (e k)) (h (e k))) d ++ L (λ v. when (o v) (h v)) n) → List·Memᴰ x (collected p g d ++ collected o h n))
+          × (List·Memᴰ x (L (λ k. when (p k) (g k)) d ++ L (λ v. when (o v) (h v)) n) ↔ List·Memᴰ x (collected p g d ++ collected o h n))
+      arcs-of =
+          let i = tested-iff p g d in
+          let j = tested-iff o h n in
+          (λ m. of-first (List·Memᴰ·append-cases (L edge d) m), (append-in x _ _ _ _ (i .0) (j .0), append-in x _ _ _ _ (i .1) (j .1)))

@@ -2,7 +2,7 @@
 use Prim.Native.Nat.{ℕ}
 use mathlib.Core.Path.{_≡_, sym, _∙_, ap}
 use mathlib.Core.List.{List, [], _++_}
-use lib.ListN.{set, take, drop, replicate}
+use lib.ListN.{take, drop}
 use Rattle.refusals.specs.declared.Refusal.{Refusal}
 use Rattle.refusals.specs.declared.Checked.{Checked}
 use Rattle.refusals.specs.declared.Checked.the-variants.{Passed, Refused}
@@ -12,19 +12,20 @@ use Rattle.rows.specs.declared.VersionNo.{VersionNo}
 use Rattle.rows.specs.Rows.{versionAt, edgeAt}
 use Rattle.rules.specs.Trail.{Trail, tables, trailOf}
 use Rattle.rules.specs.Start.{startOf}
-use Rattle.rules.specs.Marks.{passes, ones, overlaid}
+use Rattle.rules.specs.Marks.{ones, overlaid}
 use Rattle.rules.specs.Backward.{traceChecks}
 use Rattle.rules.specs.Forward.{forwardWork, forwardEntities, forwardIntake, forwardOf}
 use Rattle.closure.proofs.Forward.{length-forwardWork}
-use Rattle.trace.specs.TraceArcs.{arcsOn}
-use Rattle.trace.specs.Owners.{ownersMarked}
+use Rattle.closure.proofs.Traces.{passed-entity}
+use Rattle.trace.specs.TraceArcs.{markedOn}
+use Rattle.trace.specs.Owners.{EntitiesMarked}
 use Rattle.trace.specs.Intake.{lastIntake}
 use Rattle.trace.specs.Answers.{forwardTrace}
 use Rattle.trace.proofs.StartLoop.{start-any}
 use Rattle.trace.proofs.IntakeLoop.{lastIntake-is}
-use Rattle.trace.proofs.Checked.{passed-rows, passed-entity}
+use Rattle.trace.proofs.Checked.{passed-rows}
 use Rattle.trace.proofs.OnMarks.{work-on}
-use Rattle.trace.proofs.Buffers.{left-work, left-marks, left-count}
+use Rattle.trace.proofs.Buffers.{left-work, left-marks}
 
 module _ (c : Counts) (es vs ds : List ℕ) (x t : ℕ) (work marks : List ℕ) where
   abbrev checked : Checked
@@ -48,27 +49,25 @@ module _ (c : Counts) (es vs ds : List ℕ) (x t : ℕ) (work marks : List ℕ) 
 
     module _
         (s : VersionNo)
-        (work′ marks′ : List ℕ)
+        (part marks′ : List ℕ)
         (n g : ℕ)
         (qs : s .0 ≡ startOf (trailOf c (tables es vs [])) x t)
-        (qw : work′ ≡ passes (c .versions) (arcsOn (versionAt vs) (edgeAt ds) (c .versions) (c .edges)) (set (replicate (c .versions) 0 ++ drop (c .versions) work) (s .0) 1))
-        (qm : marks′ ≡ ownersMarked (versionAt vs) work′ (c .versions) (replicate (c .entities) 0 ++ drop (c .entities) marks))
-        (qn : n ≡ ones (take (c .entities) marks′))
+        (qw : part ≡ markedOn (versionAt vs) (edgeAt ds) (c .versions) (c .edges) (s .0))
+        (qm : EntitiesMarked c (versionAt vs) (take (c .versions) (part ++ drop (c .versions) work)) marks n marks′)
         (qg : g ≡ lastIntake (versionAt vs) (edgeAt ds) (s .0) t (c .edges))
       where
-        marked : work′ ≡ forwardWork T x t ++ drop (c .versions) work
+        marked : part ≡ forwardWork T x t
         marked =
             qw
-            ∙ ap (λ v. passes (c .versions) (arcsOn (versionAt vs) (edgeAt ds) (c .versions) (c .edges)) (set (replicate (c .versions) 0 ++ drop (c .versions) work) v 1)) (qs ∙ start-any c es vs ds x t)
-            ∙ work-on T (passed-rows c (tables es vs ds) x work marks p) x t (passed-entity c (tables es vs ds) x work marks p) _
+            ∙ ap (λ v. markedOn (versionAt vs) (edgeAt ds) (c .versions) (c .edges) v) (qs ∙ start-any c es vs ds x t)
+            ∙ work-on T (passed-rows c (tables es vs ds) x work marks p) x t (passed-entity c (tables es vs ds) x work marks p)
 
-        pub forward-passed : forwardTrace (record { refusal = 0; count = n; intake = g }) work′ marks′ ≡ forwardOf c (tables es vs ds) x t work marks
+        pub forward-passed : forwardTrace (record { refusal = 0; count = n; intake = g }) (part ++ drop (c .versions) work) marks′ ≡ forwardOf c (tables es vs ds) x t work marks
         unfolding forwardEntities forwardIntake
         forward-passed =
-            let f = passed-rows c (tables es vs ds) x work marks p in
             let l = length-forwardWork T x t in
-            let w : work′ ≡ overlaid (forwardWork T x t) work = left-work T f (forwardWork T x t) work marks l work′ marks′ marked qm in
-            let m : marks′ ≡ overlaid (forwardEntities T x t) marks = left-marks T f (forwardWork T x t) work marks l work′ marks′ marked qm in
-            let o : n ≡ ones (forwardEntities T x t) = left-count T f (forwardWork T x t) work marks l work′ marks′ marked qm n qn in
+            let w = left-work T (forwardWork T x t) work l part marked in
+            let m = left-marks T (forwardWork T x t) work l part marked marks marks′ n qm in
+            let f = passed-rows c (tables es vs ds) x work marks p in
             let z : g ≡ forwardIntake T x t = qg ∙ ap (λ v. lastIntake (versionAt vs) (edgeAt ds) v t (c .edges)) (qs ∙ start-any c es vs ds x t) ∙ lastIntake-is T f (startOf T x t) t in
-            (λ i. forwardTrace (record { refusal = 0; count = o i; intake = z i }) (w i) (m i)) ∙ sym forward-taken
+            (λ i. forwardTrace (record { refusal = 0; count = m .count i; intake = z i }) (w i) (m .marks i)) ∙ sym forward-taken

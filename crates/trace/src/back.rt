@@ -2,85 +2,96 @@
 use super::marks::clear;
 use super::marks::follow_arc;
 use super::marks::mark;
+use super::marks::mark_if;
 use super::marks::marked;
 use rows::Counts;
 use rows::EdgeNo;
+use rows::EdgeRow;
 use rows::VersionNo;
-use rows::edge_from;
-use rows::edge_time;
-use rows::edge_to;
+use rows::edge_in;
+use rows::version_in;
 use rows::version_previous;
 use soundness::NONE;
-ghost use Prim.Native.Nat.{_≤_};
+ghost use Prim.Native.Nat.{_≤_, _<_};
 ghost use mathlib.Core.Path.{_≡_};
-ghost use mathlib.Core.List.{_++_};
-ghost use lib.ListN.{length, set, drop, replicate};
+ghost use mathlib.Core.Bool.{true};
+ghost use lib.ListN.{length, getD};
+ghost use lib.Dec.{eqb};
 ghost use Rattle.rows.specs.Rows.{versionAt, edgeAt};
+ghost use Rattle.rows.specs.Capacity.{versionCapacity, edgeCapacity};
 ghost use Rattle.rules.specs.Marks.{passes};
 ghost use Rattle.rules.specs.Backward.{isFollowed};
 ghost use Rattle.trace.specs.Followed.{Followed, down};
-ghost use Rattle.trace.specs.TraceArcs.{stepBack, sourceBack, edgeBack, arcsBack};
+ghost use Rattle.trace.specs.TraceArcs.{stepBack, sourceBack, edgeBack, firstBack, laterBack, markedBack};
 
-// From version v to its previous.
-fn step_back(versions: &[u32], work: &mut [u8], v: VersionNo) -> bool
-    ensures { λ r. ⌜ Followed (stepBack (versionAt (now (versions .entry))) (v .0)) (now (work .entry)) r (now (work .exit)) ⌝ }
+// From version v to its previous, p.
+fn previous_back(work: &mut [u8], v: VersionNo, p: VersionNo) -> bool
+    ensures { λ r. ⌜ Followed (stepBack (v .0) (p .0)) (now (work .entry)) r (now (work .exit)) ⌝ }
 {
-    let p = version_previous(versions, v);
     if p.0 == NONE {
         return false;
     }
     follow_arc(work, v, p)
 }
 
-// Whether edge k, which enters version `to`, is followed: where that is the start version s, by time t alone.
-fn is_followed(edges: &[u32], s: VersionNo, t: u32, k: EdgeNo, to: VersionNo) -> bool
-    requires { ⌜ to ≡ edgeAt (now edges) (k .0) .to ⌝ }
-    ensures { λ r. ⌜ r ≡ isFollowed (s .0) t (edgeAt (now (edges .entry)) (k .0)) ⌝ }
+// Whether edge e is followed: into the start version s by time t alone.
+fn is_followed(s: VersionNo, t: u32, e: EdgeRow) -> bool
+    ensures { λ r. ⌜ r ≡ isFollowed (s .0) t e ⌝ }
 {
-    if to.0 == s.0 {
-        return edge_time(edges, k) <= t;
+    if e.to.0 == s.0 {
+        return e.time <= t;
     }
     true
 }
 
-// Against edge k, which enters version `to`.
-fn source_back(
-    edges: &[u32],
-    work: &mut [u8],
-    s: VersionNo,
-    t: u32,
-    k: EdgeNo,
-    to: VersionNo,
-) -> bool
-    requires { ⌜ to ≡ edgeAt (now edges) (k .0) .to ⌝ }
-    ensures { λ r. ⌜ Followed (sourceBack (edgeAt (now (edges .entry))) (s .0) t (k .0)) (now (work .entry)) r (now (work .exit)) ⌝ }
+// Against edge e.
+fn source_back(work: &mut [u8], s: VersionNo, t: u32, e: EdgeRow) -> bool
+    ensures { λ r. ⌜ Followed (sourceBack (s .0) t e) (now (work .entry)) r (now (work .exit)) ⌝ }
 {
-    if is_followed(edges, s, t, k, to) {
-        let from = edge_from(edges, k);
-        return follow_arc(work, to, from);
+    if is_followed(s, t, e) {
+        return follow_arc(work, e.to, e.from);
     }
     false
 }
 
-// Edge k, and the step of the version that it enters.
-fn enter_back(
-    versions: &[u32],
-    edges: &[u32],
-    work: &mut [u8],
-    s: VersionNo,
-    t: u32,
-    k: EdgeNo,
-    to: VersionNo,
-) -> bool
-    requires { ⌜ to ≡ edgeAt (now edges) (k .0) .to ⌝ }
-    ensures { λ r. ⌜ Followed (edgeBack (versionAt (now (versions .entry))) (edgeAt (now (edges .entry))) (s .0) t (k .0)) (now (work .entry)) r (now (work .exit)) ⌝ }
+// The same of edge k.
+fn source_at(edges: &[u32], work: &mut [u8], s: VersionNo, t: u32, k: EdgeNo) -> bool
+    requires { ⌜ k .0 < edgeCapacity (now edges) ⌝ }
+    ensures { λ r. ⌜ Followed (sourceBack (s .0) t (edgeAt (now (edges .entry)) (k .0))) (now (work .entry)) r (now (work .exit)) ⌝ }
 {
-    let a = source_back(edges, work, s, t, k, to);
-    let b = step_back(versions, work, to);
+    let e = edge_in(edges, k);
+    source_back(work, s, t, e)
+}
+
+fn sources_back(edges: &[u32], d: u32, work: &mut [u8], s: VersionNo, t: u32) -> bool
+    requires { ⌜ d ≤ edgeCapacity (now edges) ⌝ }
+    ensures { λ r. ⌜ Followed (down (λ k. sourceBack (s .0) t (edgeAt (now (edges .entry)) k)) d) (now (work .entry)) r (now (work .exit)) ⌝ }
+{
+    let mut changed = false;
+    let mut j = d;
+    while 0 < j {
+        j -= 1;
+        let r = source_at(edges, work, s, t, EdgeNo(j));
+        changed = changed | r;
+    }
+    changed
+}
+
+// Against edge e, and the step of the version that it enters, which is marked.
+fn enter_back(versions: &[u32], work: &mut [u8], s: VersionNo, t: u32, e: EdgeRow) -> bool
+    requires { ⌜ eqb (getD (now work) (e .to .0) 0) 1 ≡ true ⌝ }
+    ensures { λ r. ⌜ Followed (edgeBack (versionAt (now (versions .entry))) (s .0) t e) (now (work .entry)) r (now (work .exit)) ⌝ }
+{
+    let a = source_back(work, s, t, e);
+    let p = version_previous(versions, e.to);
+    if p.0 == NONE {
+        return a;
+    }
+    let b = mark_if(work, p.0, true);
     a | b
 }
 
-// The same, where nothing is read of an edge that enters a version not marked.
+// The same of edge k, where no more is read of an edge that enters a version not marked.
 fn edge_back(
     versions: &[u32],
     edges: &[u32],
@@ -89,11 +100,12 @@ fn edge_back(
     t: u32,
     k: EdgeNo,
 ) -> bool
-    ensures { λ r. ⌜ Followed (edgeBack (versionAt (now (versions .entry))) (edgeAt (now (edges .entry))) (s .0) t (k .0)) (now (work .entry)) r (now (work .exit)) ⌝ }
+    requires { ⌜ k .0 < edgeCapacity (now edges) ⌝ }
+    ensures { λ r. ⌜ Followed (edgeBack (versionAt (now (versions .entry))) (s .0) t (edgeAt (now (edges .entry)) (k .0))) (now (work .entry)) r (now (work .exit)) ⌝ }
 {
-    let to = edge_to(edges, k);
-    if marked(work, to.0) {
-        return enter_back(versions, edges, work, s, t, k, to);
+    let e = edge_in(edges, k);
+    if marked(work, e.to.0) {
+        return enter_back(versions, work, s, t, e);
     }
     false
 }
@@ -106,7 +118,8 @@ fn edges_back(
     s: VersionNo,
     t: u32,
 ) -> bool
-    ensures { λ r. ⌜ Followed (down (edgeBack (versionAt (now (versions .entry))) (edgeAt (now (edges .entry))) (s .0) t) d) (now (work .entry)) r (now (work .exit)) ⌝ }
+    requires { ⌜ d ≤ edgeCapacity (now edges) ⌝ }
+    ensures { λ r. ⌜ Followed (down (λ k. edgeBack (versionAt (now (versions .entry))) (s .0) t (edgeAt (now (edges .entry)) k)) d) (now (work .entry)) r (now (work .exit)) ⌝ }
 {
     let mut changed = false;
     let mut k = d;
@@ -118,8 +131,18 @@ fn edges_back(
     changed
 }
 
+// The step of version v.
+fn step_back(versions: &[u32], work: &mut [u8], v: VersionNo) -> bool
+    requires { ⌜ v .0 < versionCapacity (now versions) ⌝ }
+    ensures { λ r. ⌜ Followed (stepBack (v .0) (versionAt (now (versions .entry)) (v .0) .previous .0)) (now (work .entry)) r (now (work .exit)) ⌝ }
+{
+    let row = version_in(versions, v);
+    previous_back(work, v, row.previous)
+}
+
 fn steps_back(versions: &[u32], n: u32, work: &mut [u8]) -> bool
-    ensures { λ r. ⌜ Followed (down (stepBack (versionAt (now (versions .entry)))) n) (now (work .entry)) r (now (work .exit)) ⌝ }
+    requires { ⌜ n ≤ versionCapacity (now versions) ⌝ }
+    ensures { λ r. ⌜ Followed (down (λ v. stepBack v (versionAt (now (versions .entry)) v .previous .0)) n) (now (work .entry)) r (now (work .exit)) ⌝ }
 {
     let mut changed = false;
     let mut v = n;
@@ -131,8 +154,8 @@ fn steps_back(versions: &[u32], n: u32, work: &mut [u8]) -> bool
     changed
 }
 
-// One pass over d edges and n versions.
-fn pass_back(
+// The first pass over d edges and n versions: with the step at each edge it finds all marks of grown tables.
+fn first_back(
     versions: &[u32],
     n: u32,
     edges: &[u32],
@@ -141,14 +164,33 @@ fn pass_back(
     s: VersionNo,
     t: u32,
 ) -> bool
-    ensures { λ r. ⌜ Followed (arcsBack (versionAt (now (versions .entry))) (edgeAt (now (edges .entry))) n d (s .0) t) (now (work .entry)) r (now (work .exit)) ⌝ }
+    requires { ⌜ (n ≤ versionCapacity (now versions)) × (d ≤ edgeCapacity (now edges)) ⌝ }
+    ensures { λ r. ⌜ Followed (firstBack (versionAt (now (versions .entry))) (edgeAt (now (edges .entry))) n d (s .0) t) (now (work .entry)) r (now (work .exit)) ⌝ }
 {
     let a = edges_back(versions, edges, d, work, s, t);
     let b = steps_back(versions, n, work);
     a | b
 }
 
-// Passes until one adds no mark: each other one adds one, so n are enough. Any versions may be marked at the beginning.
+// A later pass, which reads no version at an edge.
+fn later_back(
+    versions: &[u32],
+    n: u32,
+    edges: &[u32],
+    d: u32,
+    work: &mut [u8],
+    s: VersionNo,
+    t: u32,
+) -> bool
+    requires { ⌜ (n ≤ versionCapacity (now versions)) × (d ≤ edgeCapacity (now edges)) ⌝ }
+    ensures { λ r. ⌜ Followed (laterBack (versionAt (now (versions .entry))) (edgeAt (now (edges .entry))) n d (s .0) t) (now (work .entry)) r (now (work .exit)) ⌝ }
+{
+    let a = sources_back(edges, d, work, s, t);
+    let b = steps_back(versions, n, work);
+    a | b
+}
+
+// Later passes until one adds no mark: each other one adds one, so n are enough. Any versions may be marked at the beginning.
 fn close_back(
     versions: &[u32],
     n: u32,
@@ -158,11 +200,12 @@ fn close_back(
     s: VersionNo,
     t: u32,
 )
-    ensures { λ _. ⌜ now (work .exit) ≡ passes n (arcsBack (versionAt (now (versions .entry))) (edgeAt (now (edges .entry))) n d (s .0) t) (now (work .entry)) ⌝ }
+    requires { ⌜ (n ≤ versionCapacity (now versions)) × (d ≤ edgeCapacity (now edges)) ⌝ }
+    ensures { λ _. ⌜ now (work .exit) ≡ passes n (laterBack (versionAt (now (versions .entry))) (edgeAt (now (edges .entry))) n d (s .0) t) (now (work .entry)) ⌝ }
 {
     let mut left = n;
     while 0 < left {
-        if pass_back(versions, n, edges, d, work, s, t) {
+        if later_back(versions, n, edges, d, work, s, t) {
             left -= 1;
         } else {
             return;
@@ -170,12 +213,15 @@ fn close_back(
     }
 }
 
-// Marks the start version s alone, and then all that a backward trace at time t marks.
+// In a buffer with a byte for each version, marks what a backward trace from version s at time t marks. Where the first pass
+// adds no mark no later one does.
 pub fn mark_back(c: Counts, versions: &[u32], edges: &[u32], work: &mut [u8], s: VersionNo, t: u32)
-    requires { ⌜ c .versions ≤ length (now work) ⌝ }
-    ensures { λ _. ⌜ now (work .exit) ≡ passes (c .versions) (arcsBack (versionAt (now (versions .entry))) (edgeAt (now (edges .entry))) (c .versions) (c .edges) (s .0) t) (set (replicate (c .versions) 0 ++ drop (c .versions) (now (work .entry))) (s .0) 1) ⌝ }
+    requires { ⌜ (c .versions ≤ versionCapacity (now versions)) × (c .edges ≤ edgeCapacity (now edges)) × (c .versions ≡ length (now work)) ⌝ }
+    ensures { λ _. ⌜ now (work .exit) ≡ markedBack (versionAt (now (versions .entry))) (edgeAt (now (edges .entry))) (c .versions) (c .edges) (s .0) t ⌝ }
 {
-    clear(work, c.versions);
+    clear(work);
     mark(work, s.0);
-    close_back(versions, c.versions, edges, c.edges, work, s, t);
+    if first_back(versions, c.versions, edges, c.edges, work, s, t) {
+        close_back(versions, c.versions, edges, c.edges, work, s, t);
+    }
 }

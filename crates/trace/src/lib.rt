@@ -41,12 +41,10 @@ fn trace_back(
     ensures { λ r. ⌜ backwardTrace r (now (work .exit)) (now (marks .exit)) ≡ backwardOf c (tables (now (entities .entry)) (now (versions .entry)) (now (edges .entry))) (x .0) time (now (work .entry)) (now (marks .entry)) ⌝ }
 {
     let s = start_version(c, entities, versions, x, time);
-    mark_back(c, versions, edges, work, s, time);
-    let n = mark_entities(versions, c.versions, work, c.entities, marks);
-    BackwardAnswer {
-        refusal: 0,
-        count: n,
-    }
+    let n = c.versions as usize;
+    mark_back(c, versions, edges, &mut work[..n], s, time);
+    let count = mark_entities(c, versions, work, marks);
+    BackwardAnswer { refusal: 0, count }
 }
 
 // The backward trace of an entity at a time: the marks in the two buffers, and how many entities are marked.
@@ -97,11 +95,12 @@ fn trace_on(
 {
     let s = start_version(c, entities, versions, x, time);
     let i = intake(versions, edges, c.edges, s, time);
-    mark_on(c, versions, edges, work, s);
-    let n = mark_entities(versions, c.versions, work, c.entities, marks);
+    let n = c.versions as usize;
+    mark_on(c, versions, edges, &mut work[..n], s);
+    let count = mark_entities(c, versions, work, marks);
     ForwardAnswer {
         refusal: 0,
-        count: n,
+        count,
         intake: i,
     }
 }

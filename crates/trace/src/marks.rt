@@ -1,10 +1,9 @@
 // Buffers of marks: 1 where a version or an entity is marked, else 0.
 use rows::VersionNo;
-ghost use Prim.Native.Nat.{_≤_};
 ghost use mathlib.Core.Path.{_≡_};
 ghost use mathlib.Core.Bool.{cond};
-ghost use mathlib.Core.List.{[], _∷_, _++_};
-ghost use lib.ListN.{length, getD, set, drop, replicate};
+ghost use mathlib.Core.List.{[], _∷_};
+ghost use lib.ListN.{length, getD, set, replicate};
 ghost use lib.Dec.{eqb};
 ghost use Rattle.rules.specs.Marks.{arc};
 ghost use Rattle.trace.specs.Followed.{MarkedIf, Followed};
@@ -39,14 +38,13 @@ pub fn mark(m: &mut [u8], i: u32)
     put_byte(m, i as usize, 1);
 }
 
-// Takes the marks of the first n places away.
-pub fn clear(m: &mut [u8], n: u32)
-    requires { ⌜ n ≤ length (now m) ⌝ }
-    ensures { λ _. ⌜ now (m .exit) ≡ replicate n 0 ++ drop n (now (m .entry)) ⌝ }
+// Takes all marks away.
+pub fn clear(m: &mut [u8])
+    ensures { λ _. ⌜ now (m .exit) ≡ replicate (length (now (m .entry))) 0 ⌝ }
 {
-    let mut i: u32 = 0;
-    while i < n {
-        put_byte(m, i as usize, 0);
+    let mut i: usize = 0;
+    while i < m.len() {
+        m[i] = 0;
         i += 1;
     }
 }
@@ -58,14 +56,15 @@ fn one_if(test: bool, b: u8) -> u8
     if test { 1 } else { b }
 }
 
-// Marks place i where the test holds, and says whether that is a new mark. It writes in any case: a branch on a mark cannot be predicted.
+// Marks place i where the test holds, and says whether that is a new mark. It writes in any case: a branch on a mark
+// cannot be predicted.
 pub fn mark_if(m: &mut [u8], i: u32, test: bool) -> bool
     ensures { λ r. ⌜ MarkedIf test i (now (m .entry)) r (now (m .exit)) ⌝ }
 {
     let old = byte_at(m, i as usize);
     let new = one_if(test, old);
     put_byte(m, i as usize, new);
-    old != new
+    test & (old != 1)
 }
 
 // Marks version `to` where `from` is marked, and says whether that is a new mark.

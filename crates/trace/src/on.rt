@@ -1,59 +1,68 @@
 // Closing marked versions forward: along edges and from previous versions, the lowest number first.
+// The buffer has no byte for the number that says that there is no previous version, so none is marked there.
 use super::marks::clear;
 use super::marks::follow_arc;
 use super::marks::mark;
+use super::marks::mark_if;
 use super::marks::marked;
 use rows::Counts;
 use rows::EdgeNo;
 use rows::VersionNo;
-use rows::edge_from;
-use rows::edge_to;
+use rows::edge_in;
+use rows::version_in;
 use rows::version_previous;
-use soundness::NONE;
-ghost use Prim.Native.Nat.{_≤_};
+ghost use Prim.Native.Nat.{_≤_, _<_};
 ghost use mathlib.Core.Path.{_≡_};
-ghost use mathlib.Core.List.{_++_};
-ghost use lib.ListN.{length, set, drop, replicate};
+ghost use lib.ListN.{length};
 ghost use Rattle.rows.specs.Rows.{versionAt, edgeAt};
+ghost use Rattle.rows.specs.Capacity.{versionCapacity, edgeCapacity};
+ghost use Rattle.rules.specs.Trail.{none};
 ghost use Rattle.rules.specs.Marks.{passes};
 ghost use Rattle.trace.specs.Followed.{Followed, up};
-ghost use Rattle.trace.specs.TraceArcs.{stepOn, edgeOn, arcsOn};
+ghost use Rattle.trace.specs.TraceArcs.{stepOn, targetOn, edgeOn, firstOn, laterOn, markedOn};
 
-// To version v from its previous.
-fn step_on(versions: &[u32], work: &mut [u8], v: VersionNo) -> bool
-    ensures { λ r. ⌜ Followed (stepOn (versionAt (now (versions .entry))) (v .0)) (now (work .entry)) r (now (work .exit)) ⌝ }
+// Along edge k.
+fn target_at(edges: &[u32], work: &mut [u8], k: EdgeNo) -> bool
+    requires { ⌜ k .0 < edgeCapacity (now edges) ⌝ }
+    ensures { λ r. ⌜ Followed (targetOn (edgeAt (now (edges .entry)) (k .0))) (now (work .entry)) r (now (work .exit)) ⌝ }
 {
-    let p = version_previous(versions, v);
-    if p.0 == NONE {
-        return false;
+    let e = edge_in(edges, k);
+    follow_arc(work, e.from, e.to)
+}
+
+fn targets_on(edges: &[u32], d: u32, work: &mut [u8]) -> bool
+    requires { ⌜ d ≤ edgeCapacity (now edges) ⌝ }
+    ensures { λ r. ⌜ Followed (up (λ k. targetOn (edgeAt (now (edges .entry)) k)) d) (now (work .entry)) r (now (work .exit)) ⌝ }
+{
+    let mut changed = false;
+    let mut j: u32 = 0;
+    while j < d {
+        let r = target_at(edges, work, EdgeNo(j));
+        changed = changed | r;
+        j += 1;
     }
-    follow_arc(work, p, v)
+    changed
 }
 
-// Edge k, and the step to version `to`, which it enters.
-fn enter_on(versions: &[u32], edges: &[u32], work: &mut [u8], k: EdgeNo, to: VersionNo) -> bool
-    requires { ⌜ to ≡ edgeAt (now edges) (k .0) .to ⌝ }
-    ensures { λ r. ⌜ Followed (edgeOn (versionAt (now (versions .entry))) (edgeAt (now (edges .entry))) (k .0)) (now (work .entry)) r (now (work .exit)) ⌝ }
-{
-    let from = edge_from(edges, k);
-    let a = follow_arc(work, from, to);
-    let b = step_on(versions, work, to);
-    a | b
-}
-
-// The same, where nothing is read of an edge that enters a marked version.
+// Along edge k, and the step to the version that it enters: one write for both. No more is read of an edge that enters a
+// marked version.
 fn edge_on(versions: &[u32], edges: &[u32], work: &mut [u8], k: EdgeNo) -> bool
-    ensures { λ r. ⌜ Followed (edgeOn (versionAt (now (versions .entry))) (edgeAt (now (edges .entry))) (k .0)) (now (work .entry)) r (now (work .exit)) ⌝ }
+    requires { ⌜ (k .0 < edgeCapacity (now edges)) × (length (now work) ≤ none) ⌝ }
+    ensures { λ r. ⌜ Followed (edgeOn (versionAt (now (versions .entry))) (edgeAt (now (edges .entry)) (k .0))) (now (work .entry)) r (now (work .exit)) ⌝ }
 {
-    let to = edge_to(edges, k);
-    if marked(work, to.0) {
+    let e = edge_in(edges, k);
+    if marked(work, e.to.0) {
         return false;
     }
-    enter_on(versions, edges, work, k, to)
+    let p = version_previous(versions, e.to);
+    let a = marked(work, e.from.0);
+    let b = marked(work, p.0);
+    mark_if(work, e.to.0, a | b)
 }
 
 fn edges_on(versions: &[u32], edges: &[u32], d: u32, work: &mut [u8]) -> bool
-    ensures { λ r. ⌜ Followed (up (edgeOn (versionAt (now (versions .entry))) (edgeAt (now (edges .entry)))) d) (now (work .entry)) r (now (work .exit)) ⌝ }
+    requires { ⌜ (d ≤ edgeCapacity (now edges)) × (length (now work) ≤ none) ⌝ }
+    ensures { λ r. ⌜ Followed (up (λ k. edgeOn (versionAt (now (versions .entry))) (edgeAt (now (edges .entry)) k)) d) (now (work .entry)) r (now (work .exit)) ⌝ }
 {
     let mut changed = false;
     let mut k: u32 = 0;
@@ -65,8 +74,18 @@ fn edges_on(versions: &[u32], edges: &[u32], d: u32, work: &mut [u8]) -> bool
     changed
 }
 
+// The step to version v from its previous.
+fn step_on(versions: &[u32], work: &mut [u8], v: VersionNo) -> bool
+    requires { ⌜ (v .0 < versionCapacity (now versions)) × (length (now work) ≤ none) ⌝ }
+    ensures { λ r. ⌜ Followed (stepOn (versionAt (now (versions .entry)) (v .0) .previous .0) (v .0)) (now (work .entry)) r (now (work .exit)) ⌝ }
+{
+    let row = version_in(versions, v);
+    follow_arc(work, row.previous, v)
+}
+
 fn steps_on(versions: &[u32], n: u32, work: &mut [u8]) -> bool
-    ensures { λ r. ⌜ Followed (up (stepOn (versionAt (now (versions .entry)))) n) (now (work .entry)) r (now (work .exit)) ⌝ }
+    requires { ⌜ (n ≤ versionCapacity (now versions)) × (length (now work) ≤ none) ⌝ }
+    ensures { λ r. ⌜ Followed (up (λ v. stepOn (versionAt (now (versions .entry)) v .previous .0) v) n) (now (work .entry)) r (now (work .exit)) ⌝ }
 {
     let mut changed = false;
     let mut v: u32 = 0;
@@ -78,22 +97,34 @@ fn steps_on(versions: &[u32], n: u32, work: &mut [u8]) -> bool
     changed
 }
 
-// One pass over d edges and n versions.
-fn pass_on(versions: &[u32], n: u32, edges: &[u32], d: u32, work: &mut [u8]) -> bool
-    ensures { λ r. ⌜ Followed (arcsOn (versionAt (now (versions .entry))) (edgeAt (now (edges .entry))) n d) (now (work .entry)) r (now (work .exit)) ⌝ }
+// The first pass over d edges and n versions: with the step at each edge it finds all marks of grown tables.
+fn first_on(versions: &[u32], n: u32, edges: &[u32], d: u32, work: &mut [u8]) -> bool
+    requires { ⌜ (n ≤ versionCapacity (now versions)) × (d ≤ edgeCapacity (now edges)) × (length (now work) ≤ none) ⌝ }
+    ensures { λ r. ⌜ Followed (firstOn (versionAt (now (versions .entry))) (edgeAt (now (edges .entry))) n d) (now (work .entry)) r (now (work .exit)) ⌝ }
 {
     let a = edges_on(versions, edges, d, work);
     let b = steps_on(versions, n, work);
     a | b
 }
 
-// Passes until one adds no mark: each other one adds one, so n are enough. Any versions may be marked at the beginning.
+// A later pass, which reads no version at an edge.
+fn later_on(versions: &[u32], n: u32, edges: &[u32], d: u32, work: &mut [u8]) -> bool
+    requires { ⌜ (n ≤ versionCapacity (now versions)) × (d ≤ edgeCapacity (now edges)) × (length (now work) ≤ none) ⌝ }
+    ensures { λ r. ⌜ Followed (laterOn (versionAt (now (versions .entry))) (edgeAt (now (edges .entry))) n d) (now (work .entry)) r (now (work .exit)) ⌝ }
+{
+    let a = targets_on(edges, d, work);
+    let b = steps_on(versions, n, work);
+    a | b
+}
+
+// Later passes until one adds no mark: each other one adds one, so n are enough. Any versions may be marked at the beginning.
 fn close_on(versions: &[u32], n: u32, edges: &[u32], d: u32, work: &mut [u8])
-    ensures { λ _. ⌜ now (work .exit) ≡ passes n (arcsOn (versionAt (now (versions .entry))) (edgeAt (now (edges .entry))) n d) (now (work .entry)) ⌝ }
+    requires { ⌜ (n ≤ versionCapacity (now versions)) × (d ≤ edgeCapacity (now edges)) × (length (now work) ≤ none) ⌝ }
+    ensures { λ _. ⌜ now (work .exit) ≡ passes n (laterOn (versionAt (now (versions .entry))) (edgeAt (now (edges .entry))) n d) (now (work .entry)) ⌝ }
 {
     let mut left = n;
     while 0 < left {
-        if pass_on(versions, n, edges, d, work) {
+        if later_on(versions, n, edges, d, work) {
             left -= 1;
         } else {
             return;
@@ -101,12 +132,15 @@ fn close_on(versions: &[u32], n: u32, edges: &[u32], d: u32, work: &mut [u8])
     }
 }
 
-// Marks the start version s alone, and then all that a forward trace marks.
+// In a buffer with a byte for each version, marks what a forward trace from version s marks. Where the first pass adds no
+// mark no later one does.
 pub fn mark_on(c: Counts, versions: &[u32], edges: &[u32], work: &mut [u8], s: VersionNo)
-    requires { ⌜ c .versions ≤ length (now work) ⌝ }
-    ensures { λ _. ⌜ now (work .exit) ≡ passes (c .versions) (arcsOn (versionAt (now (versions .entry))) (edgeAt (now (edges .entry))) (c .versions) (c .edges)) (set (replicate (c .versions) 0 ++ drop (c .versions) (now (work .entry))) (s .0) 1) ⌝ }
+    requires { ⌜ (c .versions ≤ versionCapacity (now versions)) × (c .edges ≤ edgeCapacity (now edges)) × (c .versions ≡ length (now work)) ⌝ }
+    ensures { λ _. ⌜ now (work .exit) ≡ markedOn (versionAt (now (versions .entry))) (edgeAt (now (edges .entry))) (c .versions) (c .edges) (s .0) ⌝ }
 {
-    clear(work, c.versions);
+    clear(work);
     mark(work, s.0);
-    close_on(versions, c.versions, edges, c.edges, work);
+    if first_on(versions, c.versions, edges, c.edges, work) {
+        close_on(versions, c.versions, edges, c.edges, work);
+    }
 }

@@ -3,8 +3,8 @@ use Prim.Native.Nat.{_≤_, _-_}
 use mathlib.Core.Path.{_≡_, refl}
 use mathlib.Core.Bool.{true}
 use Rattle.rows.specs.Rows.{edgeAt}
-use Rattle.rules.specs.Trail.{trailOf, tables}
-use Rattle.rules.specs.Sound.{allBelow, timeBefore, edgeTest}
+use Rattle.rules.specs.Sound.{allBelow, timeBefore}
+use Rattle.soundness.specs.Parts.{codedTest}
 use Rattle.soundness.proofs.All.{all-end}
 use Rattle.soundness.proofs.Edges.{timeBefore-zero, time-next, edges-stop, edges-next}
 use borrow.Author.Needs.{needs}
@@ -13,20 +13,20 @@ use Rattle.soundness.proofs.edges_ok.Statement.{statement}
 use Rattle.soundness.proofs.edges_ok.Tie as tie
 
 abbrev Inv-loop : tie.InvT-loop
-Inv-loop c entities versions edges n before₀ k₀ before k = (k ≤ n) × (before ≡ timeBefore (edgeAt edges) k) × (allBelow (edgeTest (trailOf c (tables entities versions edges))) k ≡ true)
+Inv-loop c owners edges n before₀ k₀ before k = (k ≤ n) × (before ≡ timeBefore (edgeAt edges) k) × (allBelow (codedTest c owners (edgeAt edges)) k ≡ true)
 
 abbrev μ-loop : tie.MeasureT-loop
-μ-loop c entities versions edges n before₀ k₀ before k = n - k
+μ-loop c owners edges n before₀ k₀ before k = n - k
 
 loop-holds : tie.Need-loop-holds Inv-loop μ-loop
 unfolding allBelow
 loop-holds c = (omega arith, timeBefore-zero _, refl)
 
-edge-at-requires : tie.Need-edge-at-requires Inv-loop μ-loop
-edge-at-requires c κs = search needs
+edge-in-requires : tie.Need-edge-in-requires Inv-loop μ-loop
+edge-in-requires c κs = search needs
 
-edge-test-requires : tie.Need-edge-test-requires Inv-loop μ-loop
-edge-test-requires c κs = search needs
+edge-ok-requires : tie.Need-edge-ok-requires Inv-loop μ-loop
+edge-ok-requires c κs = search needs
 
 add-k : tie.Need-add-k Inv-loop μ-loop
 add-k c = search needs
@@ -50,8 +50,8 @@ edges-ok-spec =
     Inv-loop
     μ-loop
     loop-holds
-    edge-at-requires
-    edge-test-requires
+    edge-in-requires
+    edge-ok-requires
     add-k
     loop-less
     loop-again

@@ -6,13 +6,13 @@ use lib.ListN.{length}
 use borrow.Author.Needs.{needs}
 use Rattle.rows.specs.Rows.{versionAt, edgeAt}
 use Rattle.rules.specs.Marks.{passes}
-use Rattle.trace.specs.TraceArcs.{arcsBack}
+use Rattle.trace.specs.TraceArcs.{laterBack}
 use Rattle.trace.proofs.Loops.{passes-next, passes-stop, passes-end}
 use Rattle.trace.proofs.back.close_back.Statement.{statement}
 use Rattle.trace.proofs.back.close_back.Tie as tie
 
 abbrev Inv-loop : tie.InvT-loop
-Inv-loop versions n edges d work₀ s t left₀ work left = (left ≤ n) × (length work ≡ length work₀) × (passes left (arcsBack (versionAt versions) (edgeAt edges) n d (s .0) t) work ≡ passes n (arcsBack (versionAt versions) (edgeAt edges) n d (s .0) t) work₀)
+Inv-loop versions n edges d work₀ s t left₀ work left = (left ≤ n) × (length work ≡ length work₀) × (passes left (laterBack (versionAt versions) (edgeAt edges) n d (s .0) t) work ≡ passes n (laterBack (versionAt versions) (edgeAt edges) n d (s .0) t) work₀)
 
 abbrev μ-loop : tie.MeasureT-loop
 μ-loop versions n edges d work₀ s t left₀ work left = left
@@ -20,8 +20,8 @@ abbrev μ-loop : tie.MeasureT-loop
 loop-holds : tie.Need-loop-holds Inv-loop μ-loop
 loop-holds c = (omega arith, refl, refl)
 
-pass-back-requires : tie.Need-pass-back-requires Inv-loop μ-loop
-pass-back-requires c κs = search needs
+later-back-requires : tie.Need-later-back-requires Inv-loop μ-loop
+later-back-requires c κs = search needs
 
 sub-left : tie.Need-sub-left Inv-loop μ-loop
 sub-left c = search needs
@@ -51,7 +51,7 @@ close-back-spec =
     Inv-loop
     μ-loop
     loop-holds
-    pass-back-requires
+    later-back-requires
     sub-left
     loop-less
     loop-again

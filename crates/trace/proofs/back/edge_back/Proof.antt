@@ -1,23 +1,23 @@
 -- `trace::back::edge_back` meets its contract. Both arcs begin at the version entered, so they add nothing where that is not marked.
 use borrow.Author.Needs.{needs}
-use Rattle.trace.proofs.BackArcs.{edge-idle}
+use Rattle.trace.proofs.BackArcs.{edge-back-of, edge-idle}
 use Rattle.trace.proofs.back.edge_back.Statement.{statement}
 use Rattle.trace.proofs.back.edge_back.Tie as tie
 
-edge-to-requires : tie.Need-edge-to-requires
-edge-to-requires c κs = search needs
+edge-in-requires : tie.Need-edge-in-requires
+edge-in-requires c κs = search needs
 
 marked-requires : tie.Need-marked-requires
 marked-requires c κs = search needs
 
 enter-back-requires : tie.Need-enter-back-requires
-enter-back-requires c κs = search needs
+enter-back-requires c κs = cc
 
 same-length : tie.Need-same-length
 same-length c = search needs
 
 returns : tie.Need-returns
-returns c = search needs
+returns c = search edge-back-of
 
 same-length-2 : tie.Need-same-length-2
 same-length-2 c = search needs
@@ -29,7 +29,7 @@ pub edge-back-spec : {M : Type 1} → statement M
 edge-back-spec =
     tie.close
     (tie.spec
-    edge-to-requires
+    edge-in-requires
     marked-requires
     enter-back-requires
     same-length

@@ -11,7 +11,7 @@ use Rattle.trace.proofs.back.edges_back.Statement.{statement}
 use Rattle.trace.proofs.back.edges_back.Tie as tie
 
 abbrev Inv-loop : tie.InvT-loop
-Inv-loop versions edges d work₀ s t changed₀ k₀ work changed k = (k ≤ d) × (length work ≡ length work₀) × Descends (edgeBack (versionAt versions) (edgeAt edges) (s .0) t) d work₀ k changed work
+Inv-loop versions edges d work₀ s t changed₀ k₀ work changed k = (k ≤ d) × (length work ≡ length work₀) × Descends (λ j. edgeBack (versionAt versions) (s .0) t (edgeAt edges j)) d work₀ k changed work
 
 abbrev μ-loop : tie.MeasureT-loop
 μ-loop versions edges d work₀ s t changed₀ k₀ work changed k = k

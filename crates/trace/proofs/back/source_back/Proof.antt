@@ -7,9 +7,6 @@ use Rattle.trace.proofs.back.source_back.Tie as tie
 is-followed-requires : tie.Need-is-followed-requires
 is-followed-requires c κs = search needs
 
-edge-from-requires : tie.Need-edge-from-requires
-edge-from-requires c κs = search needs
-
 follow-arc-requires : tie.Need-follow-arc-requires
 follow-arc-requires c κs = search needs
 
@@ -27,7 +24,6 @@ source-back-spec =
     tie.close
     (tie.spec
     is-followed-requires
-    edge-from-requires
     follow-arc-requires
     same-length
     returns

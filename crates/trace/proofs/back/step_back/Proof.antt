@@ -1,25 +1,21 @@
--- `trace::back::step_back` meets its contract. A version without previous has no arc, another has one.
+-- `trace::back::step_back` meets its contract. The previous version is the one of the row that was read.
 use borrow.Author.Needs.{needs}
-use Rattle.trace.proofs.BackArcs.{step-none, step-back}
+use Rattle.trace.proofs.BackArcs.{step-back-of}
 use Rattle.trace.proofs.back.step_back.Statement.{statement}
 use Rattle.trace.proofs.back.step_back.Tie as tie
 
-version-previous-requires : tie.Need-version-previous-requires
-version-previous-requires c κs = search needs
+version-in-requires : tie.Need-version-in-requires
+version-in-requires c κs = search needs
 
-returns : tie.Need-returns
-returns c = search step-none
-
-follow-arc-requires : tie.Need-follow-arc-requires
-follow-arc-requires c κs = search needs
+previous-back-requires : tie.Need-previous-back-requires
+previous-back-requires c κs = search needs
 
 same-length : tie.Need-same-length
 same-length c = search needs
 
-returns-2 : tie.Need-returns-2
-returns-2 c = search step-back
+returns : tie.Need-returns
+returns c = search step-back-of
 
 pub step-back-spec : {M : Type 1} → statement M
 step-back-spec =
-    tie.close
-    (tie.spec version-previous-requires returns follow-arc-requires same-length returns-2)
+    tie.close (tie.spec version-in-requires previous-back-requires same-length returns)

@@ -11,7 +11,7 @@ use Rattle.trace.proofs.back.steps_back.Statement.{statement}
 use Rattle.trace.proofs.back.steps_back.Tie as tie
 
 abbrev Inv-loop : tie.InvT-loop
-Inv-loop versions n work₀ changed₀ v₀ work changed v = (v ≤ n) × (length work ≡ length work₀) × Descends (stepBack (versionAt versions)) n work₀ v changed work
+Inv-loop versions n work₀ changed₀ v₀ work changed v = (v ≤ n) × (length work ≡ length work₀) × Descends (λ j. stepBack j (versionAt versions j .previous .0)) n work₀ v changed work
 
 abbrev μ-loop : tie.MeasureT-loop
 μ-loop versions n work₀ changed₀ v₀ work changed v = v

@@ -1,14 +1,7 @@
 -- `trace::intake::enters` meets its contract. The time is looked at where the version is the one asked for.
-use borrow.Author.Needs.{needs}
 use Rattle.trace.proofs.IntakeLoop.{enters-time, enters-other}
 use Rattle.trace.proofs.intake.enters.Statement.{statement}
 use Rattle.trace.proofs.intake.enters.Tie as tie
-
-edge-to-requires : tie.Need-edge-to-requires
-edge-to-requires c κs = search needs
-
-edge-time-requires : tie.Need-edge-time-requires
-edge-time-requires c κs = search needs
 
 returns : tie.Need-returns
 returns c = search enters-time
@@ -17,4 +10,4 @@ returns-2 : tie.Need-returns-2
 returns-2 c = search enters-other
 
 pub enters-spec : {M : Type 1} → statement M
-enters-spec = tie.close (tie.spec edge-to-requires edge-time-requires returns returns-2)
+enters-spec = tie.close (tie.spec returns returns-2)

@@ -19,6 +19,9 @@ loop-holds c = (omega arith, search looks-start)
 sub-k : tie.Need-sub-k Inv-loop μ-loop
 sub-k c = search needs
 
+edge-in-requires : tie.Need-edge-in-requires Inv-loop μ-loop
+edge-in-requires c κs = search needs
+
 enters-requires : tie.Need-enters-requires Inv-loop μ-loop
 enters-requires c κs = search needs
 
@@ -42,6 +45,7 @@ last-into-spec =
     μ-loop
     loop-holds
     sub-k
+    edge-in-requires
     enters-requires
     returns
     loop-less

@@ -6,13 +6,13 @@ use lib.ListN.{length}
 use borrow.Author.Needs.{needs}
 use Rattle.rows.specs.Rows.{versionAt, edgeAt}
 use Rattle.rules.specs.Marks.{passes}
-use Rattle.trace.specs.TraceArcs.{arcsOn}
+use Rattle.trace.specs.TraceArcs.{laterOn}
 use Rattle.trace.proofs.Loops.{passes-next, passes-stop, passes-end}
 use Rattle.trace.proofs.on.close_on.Statement.{statement}
 use Rattle.trace.proofs.on.close_on.Tie as tie
 
 abbrev Inv-loop : tie.InvT-loop
-Inv-loop versions n edges d work₀ left₀ work left = (left ≤ n) × (length work ≡ length work₀) × (passes left (arcsOn (versionAt versions) (edgeAt edges) n d) work ≡ passes n (arcsOn (versionAt versions) (edgeAt edges) n d) work₀)
+Inv-loop versions n edges d work₀ left₀ work left = (left ≤ n) × (length work ≡ length work₀) × (passes left (laterOn (versionAt versions) (edgeAt edges) n d) work ≡ passes n (laterOn (versionAt versions) (edgeAt edges) n d) work₀)
 
 abbrev μ-loop : tie.MeasureT-loop
 μ-loop versions n edges d work₀ left₀ work left = left
@@ -20,8 +20,8 @@ abbrev μ-loop : tie.MeasureT-loop
 loop-holds : tie.Need-loop-holds Inv-loop μ-loop
 loop-holds c = (omega arith, refl, refl)
 
-pass-on-requires : tie.Need-pass-on-requires Inv-loop μ-loop
-pass-on-requires c κs = search needs
+later-on-requires : tie.Need-later-on-requires Inv-loop μ-loop
+later-on-requires c κs = search needs
 
 sub-left : tie.Need-sub-left Inv-loop μ-loop
 sub-left c = search needs
@@ -51,7 +51,7 @@ close-on-spec =
     Inv-loop
     μ-loop
     loop-holds
-    pass-on-requires
+    later-on-requires
     sub-left
     loop-less
     loop-again

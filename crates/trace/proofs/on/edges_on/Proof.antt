@@ -12,7 +12,7 @@ use Rattle.trace.proofs.on.edges_on.Statement.{statement}
 use Rattle.trace.proofs.on.edges_on.Tie as tie
 
 abbrev Inv-loop : tie.InvT-loop
-Inv-loop versions edges d work₀ changed₀ k₀ work changed k = (k ≤ d) × (length work ≡ length work₀) × Followed (up (edgeOn (versionAt versions) (edgeAt edges)) k) work₀ changed work
+Inv-loop versions edges d work₀ changed₀ k₀ work changed k = (k ≤ d) × (length work ≡ length work₀) × Followed (up (λ j. edgeOn (versionAt versions) (edgeAt edges j)) k) work₀ changed work
 
 abbrev μ-loop : tie.MeasureT-loop
 μ-loop versions edges d work₀ changed₀ k₀ work changed k = d - k

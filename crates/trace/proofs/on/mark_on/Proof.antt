@@ -1,6 +1,8 @@
--- `trace::on::mark_on` meets its contract. The buffer is cleared, marked and closed in turn.
+-- `trace::on::mark_on` meets its contract. The buffer is cleared, marked and closed in turn; after a first pass that adds no mark later ones change nothing.
 use borrow.Author.Needs.{needs}
-use Rattle.trace.proofs.Loops.{passes-seeded}
+use Rattle.trace.specs.TraceArcs.{markedOn}
+use Rattle.trace.proofs.Loops.{later-passes, no-later-pass}
+use Rattle.trace.proofs.OnArcs.{later-first}
 use Rattle.trace.proofs.on.mark_on.Statement.{statement}
 use Rattle.trace.proofs.on.mark_on.Tie as tie
 
@@ -10,6 +12,9 @@ clear-requires c κs = search needs
 mark-requires : tie.Need-mark-requires
 mark-requires c κs = search needs
 
+first-on-requires : tie.Need-first-on-requires
+first-on-requires c κs = search needs
+
 close-on-requires : tie.Need-close-on-requires
 close-on-requires c κs = search needs
 
@@ -17,8 +22,16 @@ same-length : tie.Need-same-length
 same-length c = search needs
 
 returns : tie.Need-returns
-returns c = search passes-seeded
+unfolding markedOn
+returns c = search later-passes
+
+same-length-2 : tie.Need-same-length-2
+same-length-2 c = search needs
+
+returns-2 : tie.Need-returns-2
+unfolding markedOn
+returns-2 c = search (no-later-pass, later-first)
 
 pub mark-on-spec : {M : Type 1} → statement M
 mark-on-spec =
-    tie.close (tie.spec clear-requires mark-requires close-on-requires same-length returns)
+    tie.close (tie.spec clear-requires mark-requires first-on-requires close-on-requires same-length returns same-length-2 returns-2)

@@ -1,14 +1,11 @@
--- `trace::on::step_on` meets its contract. A version without previous has no arc, another has one.
+-- `trace::on::step_on` meets its contract. The number for no previous version is past the end of the buffer, so nothing is marked there.
 use borrow.Author.Needs.{needs}
-use Rattle.trace.proofs.OnArcs.{step-on-none, step-on}
+use Rattle.trace.proofs.OnArcs.{step-on-of}
 use Rattle.trace.proofs.on.step_on.Statement.{statement}
 use Rattle.trace.proofs.on.step_on.Tie as tie
 
-version-previous-requires : tie.Need-version-previous-requires
-version-previous-requires c κs = search needs
-
-returns : tie.Need-returns
-returns c = search step-on-none
+version-in-requires : tie.Need-version-in-requires
+version-in-requires c κs = search needs
 
 follow-arc-requires : tie.Need-follow-arc-requires
 follow-arc-requires c κs = search needs
@@ -16,10 +13,8 @@ follow-arc-requires c κs = search needs
 same-length : tie.Need-same-length
 same-length c = search needs
 
-returns-2 : tie.Need-returns-2
-returns-2 c = search step-on
+returns : tie.Need-returns
+returns c = search step-on-of
 
 pub step-on-spec : {M : Type 1} → statement M
-step-on-spec =
-    tie.close
-    (tie.spec version-previous-requires returns follow-arc-requires same-length returns-2)
+step-on-spec = tie.close (tie.spec version-in-requires follow-arc-requires same-length returns)

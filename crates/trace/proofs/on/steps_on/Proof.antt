@@ -12,7 +12,7 @@ use Rattle.trace.proofs.on.steps_on.Statement.{statement}
 use Rattle.trace.proofs.on.steps_on.Tie as tie
 
 abbrev Inv-loop : tie.InvT-loop
-Inv-loop versions n work₀ changed₀ v₀ work changed v = (v ≤ n) × (length work ≡ length work₀) × Followed (up (stepOn (versionAt versions)) v) work₀ changed work
+Inv-loop versions n work₀ changed₀ v₀ work changed v = (v ≤ n) × (length work ≡ length work₀) × Followed (up (λ j. stepOn (versionAt versions j .previous .0) j) v) work₀ changed work
 
 abbrev μ-loop : tie.MeasureT-loop
 μ-loop versions n work₀ changed₀ v₀ work changed v = n - v

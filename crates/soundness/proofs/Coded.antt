@@ -1,0 +1,116 @@
+-- The test of an edge by the codes of the entities at its ends is that of document 01.
+use Prim.Native.Nat.{ℕ, _+_, _*_, _/_, _%_, _^_, _≤_, _<_}
+use native.Mathlib.Omega.{arith}
+use mathlib.Core.Path.{_≡_, refl, sym, _∙_, ap}
+use mathlib.Core.Bool.{Bool, true, false, _&&_, Bool·beq, and-assoc, and-true}
+use mathlib.Core.List.{List, [], _∷_}
+use lib.Dec.{eqb}
+use lib.ListN.{getD}
+use borrow.Author.Tests.{ltb-true, leb-true, eqb-false, not-true, lt-ltb, le-leb, ne-eqb}
+use Rattle.refusals.proofs.Checks.{not-true-of}
+use Rattle.record.specs.Layout.{mostKind}
+use Rattle.rules.specs.Trail.{Trail, ownerOf}
+use Rattle.rules.specs.Sound.{every, allBelow, follows, timeBefore, edgeTest}
+use Rattle.soundness.specs.Facts.{EntityFacts, VersionFacts, EdgeFacts}
+use Rattle.soundness.specs.Parts.{codeOf, Owners, sortsFit, soundCodes, codedEdge, codedTest}
+use Rattle.soundness.proofs.All.{every-at, all-at, done, _also_, hold-every}
+use Rattle.soundness.proofs.Tests.{sort-low}
+use Rattle.soundness.proofs.Facts.{edge-facts, edge-after}
+use Rattle.soundness.proofs.Passes.{edge-passes}
+
+-- two tests that hold together are equal
+same-tests : (a b : Bool) → (a ≡ true → b ≡ true) → (b ≡ true → a ≡ true) → a ≡ b
+same-tests true b f g = sym (f refl)
+same-tests false true f g = g refl
+same-tests false false f g = refl
+
+equal-tests : (a b : Bool) → Bool·beq a b ≡ true → a ≡ b
+equal-tests true true h = refl
+equal-tests true false h = sym h
+equal-tests false true h = h
+equal-tests false false h = refl
+
+-- bit 4 * kind + 2 * s + t of the number bits
+abbrev pub bitAt : ℕ → ℕ → ℕ → ℕ → Bool
+bitAt bits kind s t = eqb (bits / 2 ^ (4 * kind + 2 * s + t) % 2) 1
+
+-- the bits are right for each kind and each two sorts, by one test to compute
+unfoldable pub bitsFit : ℕ → Bool
+bitsFit bits = allBelow (λ (k : ℕ). allBelow (λ (x : ℕ). allBelow (λ (y : ℕ). Bool·beq (bitAt bits k x y) (sortsFit k x y)) 2) 2) 6
+
+pub bits-fit : (bits : ℕ) → bitsFit bits ≡ true → (kind s t : ℕ) → kind ≤ mostKind → s < 2 → t < 2 → bitAt bits kind s t ≡ sortsFit kind s t
+unfolding bitsFit
+bits-fit bits h kind s t l m n = equal-tests _ _ (all-at _ 2 (all-at _ 2 (all-at _ 6 h kind (omega arith)) s m) t n)
+
+-- four tests made at once, of which a call returned the first as x
+pub every-four : (a b c d x : Bool) → x ≡ a → (((x && b) && c) && d) ≡ every (a ∷ b ∷ c ∷ d ∷ [])
+unfolding every
+every-four a b c d x q = simp (q, and-assoc, and-true)
+
+-- sound entities and versions, and the codes of the versions' entities
+module _ (T : Trail) (owners : List ℕ) (f : (x : ℕ) → x < T .counts .entities → EntityFacts T x) (g : (k : ℕ) → k < T .counts .versions → VersionFacts T k) (o : Owners T (T .counts .versions) owners) where
+  abbrev code : ℕ → ℕ
+  code v = getD owners v 0
+
+  abbrev sort : ℕ → ℕ
+  sort v = T .entity (ownerOf T v) .sort
+
+  sort-in : (v : ℕ) → v < T .counts .versions → sort v ≤ 1
+  sort-in v l = sort-low (sort v) (f _ (g v l .owner-in) .sort-is)
+
+  sort-of : (v : ℕ) → v < T .counts .versions → code v % 2 ≡ sort v
+  sort-of v l = let q = o v l in let s = sort-in v l in omega arith
+
+  owner-of : (v w : ℕ) → v < T .counts .versions → w < T .counts .versions → code v ≡ code w → ownerOf T v ≡ ownerOf T w
+  owner-of v w l m e = let p = o v l in let q = o w m in let s = sort-in v l in let t = sort-in w m in omega arith
+
+  module _ (k : ℕ) where
+    abbrev from : ℕ
+    from = T .edge k .from .0
+
+    abbrev to : ℕ
+    to = T .edge k .to .0
+
+    coded-facts : codedTest (T .counts) owners (T .edge) k ≡ true → (EdgeFacts T k) × (timeBefore (T .edge) k < T .edge k .time)
+    unfolding codedTest codedEdge soundCodes sortsFit follows
+    coded-facts h =
+        let q = every-at _ h in
+        let l : from < T .counts .versions = ltb-true _ _ (q 0) in
+        let m : to < T .counts .versions = ltb-true _ _ (q 1) in
+        let r = every-at _ (q 3) in
+        let s = every-at _ (r 0) in
+        let after : timeBefore (T .edge) k < T .edge k .time = ltb-true _ _ (r 2) in (
+          record {
+            from-in = l;
+            to-in = m;
+            apart = λ e. eqb-false _ _ (not-true _ (r 1)) (o from l ∙ ap (codeOf (T .entity)) e ∙ sym (o to m));
+            kind-low = leb-true _ _ (s 0);
+            kind-high = leb-true _ _ (q 2);
+            source-fits = rw (sort-of from l) at (s 1);
+            target-fits = rw (sort-of to m) at (s 2);
+            time-low = omega arith;
+            time-last = leb-true _ _ (r 3);
+          },
+          after,
+        )
+
+    facts-coded : EdgeFacts T k → timeBefore (T .edge) k < T .edge k .time → codedTest (T .counts) owners (T .edge) k ≡ true
+    unfolding codedTest codedEdge soundCodes sortsFit follows
+    facts-coded h after =
+        let l = h .from-in in
+        let m = h .to-in in
+        hold-every
+        (lt-ltb _ _ l
+        also lt-ltb _ _ m
+        also le-leb _ _ (h .kind-high)
+        also hold-every
+        (hold-every (le-leb _ _ (h .kind-low) also rw (sort-of from l) (h .source-fits) also rw (sort-of to m) (h .target-fits) also done)
+        also not-true-of _ (ne-eqb _ _ (λ e. h .apart (owner-of from to l m e)))
+        also lt-ltb _ _ after
+        also le-leb _ _ (h .time-last)
+        also done)
+        also done)
+
+    pub coded-is : codedTest (T .counts) owners (T .edge) k ≡ edgeTest T k
+    coded-is =
+        same-tests _ _ (λ h. let q = coded-facts h in edge-passes T k (q .0) (q .1)) (λ h. facts-coded (edge-facts T k h) (edge-after T k h))
