@@ -21,7 +21,7 @@ use Rattle.rules.specs.declared.Decision.the-variants.{Repeat, Widen}
 use Rattle.rules.specs.Trail.{Capacity, Trail, none, latestOf}
 use Rattle.rules.specs.Decide.{edgeNo, goesTo, newestTo, leaves, folds, repeatOf, gives, decide, decisionOf}
 use Rattle.rules.specs.Record.{declared, repeated, widened, renewed}
-use Rattle.rules.specs.PlainList.{put, changed}
+use Rattle.rules.specs.PlainList.{changed}
 use Rattle.rules.specs.Forward.{ForwardMarks}
 use Rattle.soundness.specs.Taken.{EventTaken}
 use Rattle.soundness.proofs.All.{and-parts}

@@ -14,7 +14,7 @@ use Rattle.rows.specs.Rows.{entityNo}
 use Rattle.record.specs.declared.Record.the-variants as records
 use Rattle.record.specs.Layout.{headerLength, recordLength}
 use Rattle.record.specs.Encode.{headerBytes}
-use Rattle.rules.specs.Trail.{Tables, capacityOf, trailOf, declaredSort}
+use Rattle.rules.specs.Trail.{Tables, capacityOf, trailOf}
 use Rattle.rules.specs.Sound.{isSound}
 use Rattle.rules.specs.Batch.{unless}
 use Rattle.rules.specs.Marks.{ones, overlaid}
@@ -78,7 +78,7 @@ module _ (c : Counts) (t : Tables) (d : Counts) (u : Tables) (s : SameTrail (tra
   -- The kept log
 
   declaration-same : (x : ℕ) → x < c .entities → declarationOf (trailOf d u) x ≡ declarationOf (trailOf c t) x
-  declaration-same x l = λ j. records.Declaration (record { sort = declaredSort (s .sorts x l j); entity = entityNo x })
+  declaration-same x l = λ j. records.Declaration (record { sort = s .sorts x l j; entity = entityNo x })
 
   logBytes-same : logBytes (trailOf d u) ≡ logBytes (trailOf c t)
   unfolding logBytes

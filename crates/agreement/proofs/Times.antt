@@ -16,7 +16,7 @@ use Rattle.rules.specs.declared.Decision.the-variants.{Repeat, Widen, Renew}
 use Rattle.rules.specs.Trail.{Capacity, capacityOf}
 use Rattle.rules.specs.Decide.{decisionOf}
 use Rattle.rules.specs.Record.{happened, refusalOf, changeOf}
-use Rattle.rules.specs.Batch.{unless, contentsOf}
+use Rattle.rules.specs.Batch.{contentsOf}
 use Rattle.rules.specs.PlainList.{changed, worked, added, addedBy}
 use Rattle.rules.specs.Calls.{Call, batch, backward, forward, plainAfter}
 use Rattle.soundness.specs.Taken.{Each}

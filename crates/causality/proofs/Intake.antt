@@ -7,8 +7,8 @@ use mathlib.Core.Bool.{cond}
 use mathlib.Core.List.{List}
 use Rattle.rules.specs.Trail.{Trail, latestOf}
 use Rattle.rules.specs.History.{Item, accepted, keptEvents, IntakeTime}
-use Rattle.rules.specs.Start.{intakeOf}
-use Rattle.rules.proofs.Intake.{Enters, IsIntake, intakeOf-is, intake-one}
+use Rattle.rules.specs.Start.{Enters, IsIntake, intakeOf}
+use Rattle.rules.proofs.Intake.{intakeOf-is, intake-one}
 use Rattle.causality.specs.Working.{ne, nv, startTime, EdgeIn, Grown}
 use Rattle.causality.specs.Order.{into}
 use Rattle.causality.proofs.Declared.{OldEntity}

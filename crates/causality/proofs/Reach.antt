@@ -20,10 +20,6 @@ All-part p done a = tt
 All-part p (skip s) a = All-part p s (a .1)
 All-part p (take s) a = (a .0, All-part p s (a .1))
 
-pub part-refl : (es : List Event) → Part es es
-part-refl [] = done
-part-refl (e ∷ es) = take (part-refl es)
-
 pub part-nil : (es : List Event) → Part [] es
 part-nil [] = done
 part-nil (e ∷ es) = skip (part-nil es)

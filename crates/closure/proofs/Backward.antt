@@ -12,7 +12,7 @@ use Rattle.rules.specs.Marks.{Arc, arc, closed}
 use Rattle.rules.specs.Backward.{BackwardMarks, edgesBack, stepsBack, backwardArcs, backwardWork}
 use Rattle.soundness.specs.Facts.{RowFacts}
 use Rattle.closure.specs.Arcs.{ReachedBy, Marked, Bits, EndBelow, AllBelow}
-use Rattle.closure.proofs.Closed.{length-closed, bits-closed, closed-iff, closed-unique}
+use Rattle.closure.proofs.Closed.{length-closed, closed-iff, closed-unique}
 use Rattle.closure.proofs.Start.{previous-before, start-in}
 use Rattle.closure.proofs.TraceArcs.{edgesBack-iff, stepsBack-iff}
 
@@ -101,10 +101,6 @@ module _ (T : Trail) (s t : ℕ) where
 pub length-backwardWork : (T : Trail) (x t : ℕ) → length (backwardWork T x t) ≡ T .counts .versions
 unfolding backwardWork
 length-backwardWork T x t = length-closed (T .counts .versions) (backwardArcs T (startOf T x t) t) (startOf T x t ∷ [])
-
-pub bits-backwardWork : (T : Trail) (x t : ℕ) → Bits (backwardWork T x t)
-unfolding backwardWork
-bits-backwardWork T x t = bits-closed (T .counts .versions) (backwardArcs T (startOf T x t) t) (startOf T x t ∷ [])
 
 module _ (T : Trail) (f : RowFacts T) (x t : ℕ) (h : x < T .counts .entities) where
   -- marked are the versions that the document says

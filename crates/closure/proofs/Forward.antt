@@ -10,7 +10,7 @@ use Rattle.rules.specs.Marks.{Arc, arc, closed}
 use Rattle.rules.specs.Forward.{ForwardMarks, edgesOn, stepsOn, forwardArcs, forwardWork}
 use Rattle.soundness.specs.Facts.{RowFacts}
 use Rattle.closure.specs.Arcs.{ReachedBy, Marked, Bits, EndBelow, AllBelow}
-use Rattle.closure.proofs.Closed.{length-closed, bits-closed, closed-iff, closed-unique}
+use Rattle.closure.proofs.Closed.{length-closed, closed-iff, closed-unique}
 use Rattle.closure.proofs.Start.{start-in}
 use Rattle.closure.proofs.TraceArcs.{edgesOn-iff, stepsOn-iff}
 
@@ -93,10 +93,6 @@ module _ (T : Trail) where
 pub length-forwardWork : (T : Trail) (x t : ℕ) → length (forwardWork T x t) ≡ T .counts .versions
 unfolding forwardWork
 length-forwardWork T x t = length-closed (T .counts .versions) (forwardArcs T) (startOf T x t ∷ [])
-
-pub bits-forwardWork : (T : Trail) (x t : ℕ) → Bits (forwardWork T x t)
-unfolding forwardWork
-bits-forwardWork T x t = bits-closed (T .counts .versions) (forwardArcs T) (startOf T x t ∷ [])
 
 module _ (T : Trail) (f : RowFacts T) (x t : ℕ) (h : x < T .counts .entities) where
   -- marked are the versions that the document says

@@ -4,8 +4,8 @@ use native.Mathlib.Omega.{arith}
 use native.Mathlib.Decide.{ℕ-discrete, decLe}
 use mathlib.Core.Path.{_≡_, refl}
 use Rattle.rules.specs.Trail.{Trail}
-use Rattle.rules.specs.Start.{intakeOf}
-use Rattle.rules.proofs.Intake.{Enters, IsIntake, intakeOf-is, intake-one}
+use Rattle.rules.specs.Start.{Enters, IsIntake, intakeOf}
+use Rattle.rules.proofs.Intake.{intakeOf-is, intake-one}
 use Rattle.soundness.specs.Facts.{RowFacts}
 
 module _ (T : Trail) (s t : ℕ) where

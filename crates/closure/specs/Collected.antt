@@ -1,4 +1,4 @@
--- What the numbers below a count give, of those that pass a test, the highest first: the common form of the lists that the traces are computed from.
+-- What g gives of the numbers below a count that pass a test, the highest first: the form of the lists behind the traces.
 use Prim.Native.Nat.{ℕ, zero, suc}
 use mathlib.Core.Bool.{Bool, cond}
 use mathlib.Core.List.{List, [], _∷_}

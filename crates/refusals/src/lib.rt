@@ -1,6 +1,6 @@
 // The refusals of document 01 by name. Their numbers stand in one definition, refusalNo.
 ghost use mathlib.Core.Path.{_≡_};
-ghost use Rattle.refusals.specs.Refusals.{numberOf, refusalNo};
+ghost use Rattle.refusals.specs.Refusals.{refusalNo};
 
 pub enum Refusal {
     // because of the input
@@ -50,15 +50,5 @@ pub fn refusal_number(r: Refusal) -> u32
         Refusal::BufferShort => 14,
         Refusal::OutputShort => 15,
         Refusal::Unsound => 16,
-    }
-}
-
-// The number that a call returns: 0 where nothing is refused.
-pub fn number(c: Checked) -> u32
-    ensures { λ n. ⌜ n ≡ numberOf c ⌝ }
-{
-    match c {
-        Checked::Passed => 0,
-        Checked::Refused(r) => refusal_number(r),
     }
 }

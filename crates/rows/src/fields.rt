@@ -1,4 +1,4 @@
-// Single fields of the rows: a scan reads no more of a row than it needs.
+// Single fields of the rows.
 use super::EDGE_WIDTH;
 use super::ENTITY_WIDTH;
 use super::EdgeNo;

@@ -9,9 +9,9 @@ use mathlib.Core.List.{List, [], _∷_, List·Memᴰ, List·Memᴰ·head, List·
 use lib.Dec.{eqb, leb}
 use borrow.Author.Tests.{eqb-true, eqb-false, leb-true, leb-false}
 use Rattle.rules.specs.Trail.{Trail}
-use Rattle.rules.specs.Start.{timesInto, greatestOr, intakeOf}
+use Rattle.rules.specs.Start.{Enters, IsIntake, greatest, start, timesInto, greatestOr, intakeOf}
 
--- a number is s and its time is by t, or it is not so
+-- whether a = s and x ≤ t, with the test that says so
 abbrev pub ByCase : ℕ → ℕ → ℕ → ℕ → Type 0
 ByCase a s x t = ((a ≡ s) × (x ≤ t) × ((eqb a s && leb x t) ≡ true)) ⊎ ((a ≡ s → x ≤ t → ⊥) × ((eqb a s && leb x t) ≡ false))
 
@@ -41,17 +41,6 @@ greatest-cons d t (u ∷ ts) = go (greatestOr d (u ∷ ts)) (greatest-cons d u t
         by : (y : ℕ) → (y ≡ t) ⊎ List·Memᴰ y (u ∷ ts) → y ≤ max t g
         by y (inl q) = omega arith
         by y (inr k) = omega (arith, b y k)
-
--- edge k enters version s at time t or before
-pub record Enters (T : Trail) (s t k : ℕ) : Type 0 where
-  pub exists : k < T .counts .edges
-  pub to : T .edge k .to .0 ≡ s
-  pub by : T .edge k .time ≤ t
-
--- "the intake: the greatest time ≤ t of an edge entering the start version, else that version's start"
-pub data IsIntake (T : Trail) (s t i : ℕ) : Type 0 where
-  greatest : (k : ℕ) → Enters T s t k → i ≡ T .edge k .time → ((j : ℕ) → Enters T s t j → T .edge j .time ≤ i) → IsIntake T s t i
-  start : ((k : ℕ) → Enters T s t k → ⊥) → i ≡ T .version s .start → IsIntake T s t i
 
 module _ (T : Trail) (s t : ℕ) where
   abbrev times : ℕ → List ℕ

@@ -10,14 +10,15 @@ pub mod Batch
 pub mod Paths
 pub mod History
 pub mod PlainList
--- "Traces": how they are computed
+pub mod Calls
+-- "Traces": the traces, as relations and as computed; the kept log
 pub mod Start
 pub mod Marks
 pub mod Backward
 pub mod Forward
 pub mod KeptLog
-pub mod Calls
 -- "A worked trail"
 pub mod Listing
 pub mod Worked
+-- "Refused because ..": their order
 pub mod Order

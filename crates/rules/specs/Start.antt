@@ -1,5 +1,5 @@
 -- Document 01, "Traces": the start version (its term), and the intake that forward gives.
-use Prim.Native.Nat.{ℕ, zero, suc, max, _≤_}
+use Prim.Native.Nat.{ℕ, zero, suc, max, _≤_, _<_}
 use mathlib.Core.Path.{_≡_}
 use mathlib.Core.Bool.{_&&_, cond}
 use mathlib.Core.List.{List, [], _∷_}
@@ -28,7 +28,18 @@ startFrom W t (suc n) w = cond (leb (W w .start) t) w (startFrom W t n (W w .pre
 unfoldable pub startOf : Trail → ℕ → ℕ → ℕ
 startOf T x t = startFrom (T .version) t (T .counts .versions) (latestOf T x)
 
--- the times ≤ t of the first n edges that enter version s
+-- edge k enters version s at time t or before
+pub record Enters (T : Trail) (s t k : ℕ) : Type 0 where
+  pub exists : k < T .counts .edges
+  pub to : T .edge k .to .0 ≡ s
+  pub by : T .edge k .time ≤ t
+
+-- "the intake: the greatest time ≤ t of an edge entering the start version, else that version's start"
+pub data IsIntake (T : Trail) (s t i : ℕ) : Type 0 where
+  greatest : (k : ℕ) → Enters T s t k → i ≡ T .edge k .time → ((j : ℕ) → Enters T s t j → T .edge j .time ≤ i) → IsIntake T s t i
+  start : ((k : ℕ) → Enters T s t k → ⊥) → i ≡ T .version s .start → IsIntake T s t i
+
+-- the same, computed: the times ≤ t of the first n edges that enter version s
 unfoldable pub timesInto : (ℕ → EdgeRow) → ℕ → ℕ → ℕ → List ℕ
 timesInto E s t zero = []
 timesInto E s t (suc k) = cond (eqb (E k .to .0) s && leb (E k .time) t) (E k .time ∷ timesInto E s t k) (timesInto E s t k)
@@ -39,6 +50,5 @@ greatestOr d [] = d
 greatestOr d (t ∷ []) = t
 greatestOr d (t ∷ (u ∷ ts)) = max t (greatestOr d (u ∷ ts))
 
--- "the intake: the greatest time ≤ t of an edge entering the start version, else that version's start"
 unfoldable pub intakeOf : Trail → ℕ → ℕ → ℕ
 intakeOf T s t = greatestOr (T .version s .start) (timesInto (T .edge) s t (T .counts .edges))

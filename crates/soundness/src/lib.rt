@@ -127,8 +127,8 @@ fn sorts_fit(kind: u32, a: u16, b: u16) -> bool
     (FITS >> place) % 2 == 1
 }
 
-// An edge of row e after one at time before, from an entity of code a to one of code b. No branch goes by the kind or a
-// sort: edges of all kinds are mixed.
+// An edge of row e after one at time before, from an entity of code a to one of code b. Edges of all kinds are mixed, so it
+// does not branch on which kind or sort it has.
 fn codes_ok(last: u32, before: u32, e: EdgeRow, a: u16, b: u16) -> bool
     requires { ⌜ e .kind ≤ mostKind ⌝ }
     ensures { λ z. ⌜ z ≡ soundCodes last before e a b ⌝ }

@@ -54,6 +54,10 @@ module _ (s t : ℕ) (e : EdgeRow) where
   pub source-of : (m : List ℕ) (row : EdgeRow) → e ≡ row → (c : Bool) (m′ : List ℕ) → Followed (sourceBack s t e) m c m′ → Followed (sourceBack s t row) m c m′
   source-of m row q c m′ f = subst (λ r. Followed (sourceBack s t r) m c m′) q f
 
+  pub source-idle : (m : List ℕ) (row : EdgeRow) → e ≡ row → (r : Bool) → r ≡ eqb (getD m (e .to .0) 0) 1 → r ≡ false → Followed (sourceBack s t row) m false m
+  unfolding sourceBack
+  source-idle m row q r z h = source-of m row q false m (when-still (isFollowed s t e) _ m (arc-idle m (e .to .0) (e .from .0) r z h))
+
   module _ (W : ℕ → VersionRow) (m : List ℕ) where
     module _ (p : VersionNo) (q : p ≡ W (e .to .0) .previous) (a : Bool) (m′ : List ℕ) (f : Followed (sourceBack s t e) m a m′) where
       pub edge-back-first : p .0 ≡ none → Followed (edgeBack W s t e) m a m′
@@ -75,11 +79,11 @@ module _ (s t : ℕ) (e : EdgeRow) where
       edge-back-of c m′ f = subst (λ r. Followed (edgeBack W s t r) m c m′) q f
 
       pub edge-idle : (r : Bool) → r ≡ eqb (getD m (e .to .0) 0) 1 → r ≡ false → Followed (edgeBack W s t row) m false m
-      unfolding edgeBack sourceBack stepBack
+      unfolding edgeBack stepBack
       edge-idle r z h =
           edge-back-of false m
           (followed-append _ _ m m m false false false
-          (when-still (isFollowed s t e) _ m (arc-idle m (e .to .0) (e .from .0) r z h))
+          (source-idle m e refl r z h)
           (when-still (not (eqb (W (e .to .0) .previous .0) none)) _ m (arc-idle m (e .to .0) (W (e .to .0) .previous .0) r z h))
           refl)
 

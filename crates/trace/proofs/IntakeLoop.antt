@@ -14,8 +14,8 @@ use Rattle.rules.specs.declared.Found.{Found}
 use Rattle.rules.specs.declared.Found.the-variants.{At, Nothing}
 use Rattle.rules.specs.Trail.{Trail}
 use Rattle.rules.specs.Decide.{edgeNo}
-use Rattle.rules.specs.Start.{intakeOf}
-use Rattle.rules.proofs.Intake.{ByCase, by-cases, Enters}
+use Rattle.rules.specs.Start.{Enters, intakeOf}
+use Rattle.rules.proofs.Intake.{ByCase, by-cases}
 use Rattle.soundness.specs.Facts.{RowFacts}
 use Rattle.closure.proofs.Intake.{intake-start, intake-last}
 use Rattle.trace.specs.Intake.{entersBy, lastInto, timeOr, lastIntake}

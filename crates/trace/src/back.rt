@@ -54,13 +54,16 @@ fn source_back(work: &mut [u8], s: VersionNo, t: u32, e: EdgeRow) -> bool
     false
 }
 
-// The same of edge k.
+// The same of edge k, which adds nothing where the version that it enters is not marked.
 fn source_at(edges: &[u32], work: &mut [u8], s: VersionNo, t: u32, k: EdgeNo) -> bool
     requires { ⌜ k .0 < edgeCapacity (now edges) ⌝ }
     ensures { λ r. ⌜ Followed (sourceBack (s .0) t (edgeAt (now (edges .entry)) (k .0))) (now (work .entry)) r (now (work .exit)) ⌝ }
 {
     let e = edge_in(edges, k);
-    source_back(work, s, t, e)
+    if marked(work, e.to.0) {
+        return source_back(work, s, t, e);
+    }
+    false
 }
 
 fn sources_back(edges: &[u32], d: u32, work: &mut [u8], s: VersionNo, t: u32) -> bool
@@ -91,7 +94,7 @@ fn enter_back(versions: &[u32], work: &mut [u8], s: VersionNo, t: u32, e: EdgeRo
     a | b
 }
 
-// The same of edge k, where no more is read of an edge that enters a version not marked.
+// The same of edge k, which adds nothing where the version that it enters is not marked.
 fn edge_back(
     versions: &[u32],
     edges: &[u32],

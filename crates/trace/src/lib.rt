@@ -1,4 +1,4 @@
-// Backward and forward traces over the lent tables (document 01, "Traces"). The lent buffers are all the memory they use.
+// Backward and forward traces over the lent tables (document 01, "Traces"). Marks stand in the lent buffers alone.
 mod back;
 mod checks;
 mod intake;

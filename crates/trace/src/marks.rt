@@ -56,8 +56,8 @@ fn one_if(test: bool, b: u8) -> u8
     if test { 1 } else { b }
 }
 
-// Marks place i where the test holds, and says whether that is a new mark. It writes in any case: a branch on a mark
-// cannot be predicted.
+// Marks place i where the test holds, and says whether that is a new mark. It writes in any case, without a branch on
+// the test.
 pub fn mark_if(m: &mut [u8], i: u32, test: bool) -> bool
     ensures { λ r. ⌜ MarkedIf test i (now (m .entry)) r (now (m .exit)) ⌝ }
 {

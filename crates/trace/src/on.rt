@@ -44,8 +44,7 @@ fn targets_on(edges: &[u32], d: u32, work: &mut [u8]) -> bool
     changed
 }
 
-// Along edge k, and the step to the version that it enters: one write for both. No more is read of an edge that enters a
-// marked version.
+// Along edge k, and the step to the version that it enters: one write for both, and none where that version is marked.
 fn edge_on(versions: &[u32], edges: &[u32], work: &mut [u8], k: EdgeNo) -> bool
     requires { ⌜ (k .0 < edgeCapacity (now edges)) × (length (now work) ≤ none) ⌝ }
     ensures { λ r. ⌜ Followed (edgeOn (versionAt (now (versions .entry))) (edgeAt (now (edges .entry)) (k .0))) (now (work .entry)) r (now (work .exit)) ⌝ }

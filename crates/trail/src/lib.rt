@@ -16,7 +16,7 @@ ghost use Rattle.trace.specs.Answers.{backwardTrace, forwardTrace};
 ghost use Rattle.kept_log.specs.Written.{keptLog};
 
 // Takes the records of a file in, in order until the first one refused, and updates the counts where the caller keeps them.
-// It needs 1.4 MB of stack.
+// It needs 1.6 MB of stack.
 #[no_mangle]
 pub extern "C" fn slt_batch(
     counts: &mut Counts,

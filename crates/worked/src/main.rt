@@ -154,7 +154,7 @@ fn byte(x: u8) -> u64 {
     x as u64
 }
 
-// A word and a number, with a space before each.
+// A word, then a number.
 fn say(word: &[u8], n: u64) {
     io::write_all(STDOUT_FILENO, word);
     io::print_decimal(STDOUT_FILENO, n);

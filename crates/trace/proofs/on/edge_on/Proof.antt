@@ -1,4 +1,4 @@
--- `trace::on::edge_on` meets its contract. Both arcs end at the version entered: they add nothing where that is marked, and else one mark where either begins at a marked version.
+-- Both arcs end at the version entered: nothing where that is marked, else one mark where either begins at a marked one.
 use borrow.Author.Needs.{needs}
 use Rattle.trace.proofs.OnArcs.{edge-on-done, edge-on}
 use Rattle.trace.proofs.on.edge_on.Statement.{statement}

@@ -1,4 +1,4 @@
--- `trace::start::start_from` meets its contract. The invariant: the steps that are left lead from the version at hand to the same version as all from the first.
+-- The invariant: the steps left lead from the version at hand to where all steps lead from the first.
 use Prim.Native.Nat.{_≤_}
 use native.Mathlib.Omega.{arith}
 use mathlib.Core.Path.{_≡_, refl}
