@@ -8,7 +8,8 @@
 //!   [`kept_log()`]. For files of many records: [`long_batch()`].
 //! - The trail over the full list of accepted events: [`FullList`].
 //! - The text of the listing program: [`listing()`].
-//! - Files and tables to try them on: [`FileBuilder`] and [`generate`].
+//! - Files and tables to try them on: [`FileBuilder`], [`worked_file()`] and
+//!   [`generate`].
 //!
 //! The program `compare` compares the library's archive with this trail call
 //! by call. It takes the feature `archive`:
@@ -37,6 +38,7 @@ pub mod rows;
 pub mod sound;
 pub mod tables;
 pub mod trace;
+pub mod worked;
 
 pub use answers::{BackwardAnswer, BatchAnswer, Counts, ForwardAnswer, LogAnswer};
 pub use batch::batch;
@@ -51,3 +53,4 @@ pub use random::Random;
 pub use record::{Declaration, Event, Kind, Record, Sort};
 pub use tables::{TableView, Tables};
 pub use trace::{backward, forward};
+pub use worked::{worked_declarations, worked_file, worked_file_from};

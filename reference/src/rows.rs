@@ -1,5 +1,7 @@
 //! The rows of the three tables.
 
+use crate::record::{Kind, Sort};
+
 /// The previous version where there is none.
 pub const NO_VERSION: u32 = 0xFFFF_FFFF;
 
@@ -10,6 +12,14 @@ pub struct EntityRow {
 }
 
 impl EntityRow {
+    /// The entity whose only version has its own number.
+    pub fn first(number: u32, sort: Sort) -> EntityRow {
+        EntityRow {
+            sort: sort.number(),
+            latest: number,
+        }
+    }
+
     pub fn from_numbers(row: &[u32]) -> EntityRow {
         EntityRow {
             sort: row[0],
@@ -31,6 +41,16 @@ pub struct VersionRow {
 }
 
 impl VersionRow {
+    /// The first version of an entity, into which nothing came.
+    pub fn first(entity: u32) -> VersionRow {
+        VersionRow {
+            entity,
+            start: 0,
+            end: 0,
+            previous: NO_VERSION,
+        }
+    }
+
     pub fn from_numbers(row: &[u32]) -> VersionRow {
         VersionRow {
             entity: row[0],
@@ -54,6 +74,15 @@ pub struct EdgeRow {
 }
 
 impl EdgeRow {
+    pub fn new(from: u32, to: u32, kind: Kind, time: u32) -> EdgeRow {
+        EdgeRow {
+            from,
+            to,
+            kind: kind.number(),
+            time,
+        }
+    }
+
     pub fn from_numbers(row: &[u32]) -> EdgeRow {
         EdgeRow {
             from: row[0],

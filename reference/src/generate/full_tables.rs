@@ -4,7 +4,7 @@
 
 use crate::capacity::{EDGE_ROW, ENTITY_ROW, VERSION_ROW};
 use crate::record::{Kind, Sort};
-use crate::rows::{EdgeRow, EntityRow, VersionRow, NO_VERSION};
+use crate::rows::{EdgeRow, EntityRow, VersionRow};
 use crate::tables::Tables;
 
 /// Rows lent in each table after those in use.
@@ -14,7 +14,7 @@ const SPARE_ROWS: usize = 4;
 /// each.
 pub fn tables_with_entities(count: u32) -> Tables {
     let entities: Vec<EntityRow> = (0..count).map(entity).collect();
-    let versions: Vec<VersionRow> = (0..count).map(first_version).collect();
+    let versions: Vec<VersionRow> = (0..count).map(VersionRow::first).collect();
     with_spare_rows(Tables::of_rows(&entities, &versions, &[], 0, 0))
 }
 
@@ -23,7 +23,7 @@ pub fn tables_with_entities(count: u32) -> Tables {
 /// must be 4 or more.
 pub fn tables_with_versions(count: u32) -> Tables {
     let mut entities: Vec<EntityRow> = (0..3).map(entity).collect();
-    let mut versions: Vec<VersionRow> = (0..3).map(first_version).collect();
+    let mut versions: Vec<VersionRow> = (0..3).map(VersionRow::first).collect();
     for number in 3..count {
         versions.push(VersionRow {
             entity: 0,
@@ -33,16 +33,18 @@ pub fn tables_with_versions(count: u32) -> Tables {
         });
         entities[0].latest = number;
     }
-    let edge = edge(entities[0].latest, 1, Kind::Write, count);
+    let edge = EdgeRow::new(entities[0].latest, 1, Kind::Write, count);
     with_spare_rows(Tables::of_rows(&entities, &versions, &[edge], 1, count))
 }
 
 /// This many edges, all reads of object 1 by the subject, and an object 2.
 pub fn tables_with_edges(count: u32) -> Tables {
     let entities: Vec<EntityRow> = (0..3).map(entity).collect();
-    let versions: Vec<VersionRow> = (0..3).map(first_version).collect();
+    let versions: Vec<VersionRow> = (0..3).map(VersionRow::first).collect();
     let times = 1..=count;
-    let edges: Vec<EdgeRow> = times.map(|time| edge(1, 0, Kind::Read, time)).collect();
+    let edges: Vec<EdgeRow> = times
+        .map(|time| EdgeRow::new(1, 0, Kind::Read, time))
+        .collect();
     with_spare_rows(Tables::of_rows(&entities, &versions, &edges, count, count))
 }
 
@@ -51,28 +53,7 @@ fn entity(number: u32) -> EntityRow {
         0 => Sort::Subject,
         _ => Sort::Object,
     };
-    EntityRow {
-        sort: sort.number(),
-        latest: number,
-    }
-}
-
-fn first_version(entity: u32) -> VersionRow {
-    VersionRow {
-        entity,
-        start: 0,
-        end: 0,
-        previous: NO_VERSION,
-    }
-}
-
-fn edge(from: u32, to: u32, kind: Kind, time: u32) -> EdgeRow {
-    EdgeRow {
-        from,
-        to,
-        kind: kind.number(),
-        time,
-    }
+    EntityRow::first(number, sort)
 }
 
 fn with_spare_rows(mut tables: Tables) -> Tables {

@@ -1,25 +1,7 @@
 //! What several tests use.
 
-use reference::{BackwardAnswer, Event, FileBuilder, ForwardAnswer, TableLengths, Tables};
+use reference::{worked_file, BackwardAnswer, Event, ForwardAnswer, TableLengths, Tables};
 use std::collections::BTreeSet;
-
-/// The declarations of the worked trail.
-pub fn worked_declarations() -> FileBuilder {
-    FileBuilder::new().object(0).subject(1).object(2).object(3)
-}
-
-/// The event file of the worked trail.
-pub fn worked_file() -> Vec<u8> {
-    worked_declarations()
-        .read(0, 1, 1)
-        .write(1, 2, 2)
-        .read(0, 1, 3)
-        .write(1, 2, 4)
-        .read(3, 1, 5)
-        .write(1, 2, 6)
-        .read(3, 1, 7)
-        .bytes()
-}
 
 /// A fresh trail with this many rows in each table.
 pub fn fresh(rows: usize) -> Tables {

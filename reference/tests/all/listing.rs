@@ -1,7 +1,6 @@
 //! The text of the listing program.
 
-use crate::common::{worked_declarations, worked_file};
-use reference::{listing, FileBuilder};
+use reference::{listing, worked_declarations, worked_file, FileBuilder};
 
 fn text(bytes: &[u8]) -> String {
     String::from_utf8(listing(bytes)).unwrap()

@@ -27,42 +27,13 @@ impl Both {
         self.tables = lend_anew(random, &self.tables, lent.lengths);
         let mut call = lent.call.clone();
         let answer = call.run(&mut self.tables);
-        let (of_list, marks) = run_on_list(&mut self.list, lent);
+        let (of_list, marks) = self.list.run(Capacity::of(lent.lengths), lent.call.clone());
         assert_eq!(answer, of_list);
         if let Call::Backward { marks: written, .. } | Call::Forward { marks: written, .. } = call {
             assert_eq!(written, marks);
         }
         assert_eq!(self.tables.counts, self.list.counts());
         answer
-    }
-}
-
-/// The answer of the full list and the mark buffer of a trace.
-fn run_on_list(list: &mut FullList, lent: &LentCall) -> (Answer, Vec<u8>) {
-    match lent.call.clone() {
-        Call::Batch { file } => {
-            let answer = list.batch(Capacity::of(lent.lengths), &file);
-            (Answer::Batch(answer), Vec::new())
-        }
-        Call::Backward {
-            entity,
-            time,
-            work,
-            mut marks,
-        } => {
-            let answer = list.backward(entity, time, work.len(), &mut marks);
-            (Answer::Backward(answer), marks)
-        }
-        Call::Forward {
-            entity,
-            time,
-            work,
-            mut marks,
-        } => {
-            let answer = list.forward(entity, time, work.len(), &mut marks);
-            (Answer::Forward(answer), marks)
-        }
-        Call::KeptLog { .. } => panic!("a list of calls has batches and traces"),
     }
 }
 

@@ -1,11 +1,13 @@
 //! Each refusal number, for each call where it can occur, in its order.
 
-use crate::common::{fresh, worked_declarations, worked_file, worked_tables};
+use crate::common::{fresh, worked_tables};
 use reference::generate::{
     any_call, any_lengths, lend_anew, refused_batch, sound_tables, unsound_tables, BatchFault,
 };
 use reference::sound::Clause;
-use reference::{Answer, FileBuilder, Kind, Random, Record, Sort, Tables};
+use reference::{
+    worked_declarations, worked_file, Answer, FileBuilder, Kind, Random, Record, Sort, Tables,
+};
 
 /// The numbers each call can be refused with.
 const BATCH: [u32; 14] = [1, 2, 3, 4, 5, 6, 7, 8, 9, 10, 11, 12, 13, 16];

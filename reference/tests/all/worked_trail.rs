@@ -1,12 +1,10 @@
 //! The cases of the worked trail, over tables and over the full list.
 
-use crate::common::{
-    backward, forward, fresh, log_of, worked_declarations, worked_file, worked_tables,
-};
+use crate::common::{backward, forward, fresh, log_of, worked_tables};
 use reference::rows::NO_VERSION;
 use reference::{
-    BackwardAnswer, BatchAnswer, Capacity, Counts, FileBuilder, ForwardAnswer, FullList, LogAnswer,
-    TableLengths, Tables,
+    worked_declarations, worked_file, BackwardAnswer, BatchAnswer, Capacity, Counts, FileBuilder,
+    ForwardAnswer, FullList, LogAnswer, TableLengths, Tables,
 };
 
 const COUNTS: Counts = Counts {

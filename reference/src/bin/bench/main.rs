@@ -9,6 +9,7 @@ mod growth;
 mod library;
 mod line;
 mod measure;
+mod real;
 mod report;
 mod traces;
 mod worst;
@@ -37,13 +38,14 @@ fn main() -> ExitCode {
 fn run() {
     report::print_heading();
     let mut lines = Vec::new();
-    for measure in [fresh_trails, full_trail, worst::worst] {
+    for measure in [fresh_trails, real::real_files, full_trail, worst::worst] {
         let measured = measure();
         measured.iter().for_each(report::print_line);
         lines.extend(measured);
     }
     let growth = Growth::measured();
     report::print_growth(&growth);
+    report::print_reductions(&real::reductions());
     report::print_goals(&lines, &growth);
 }
 

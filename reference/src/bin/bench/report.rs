@@ -2,6 +2,8 @@
 
 use crate::growth::{Growth, BASE};
 use crate::line::{Goal, Line};
+use crate::real::Reduction;
+use reference::Counts;
 
 /// The paper's events a second.
 const PAPER: f64 = 860_000.0;
@@ -84,6 +86,40 @@ pub fn print_growth(growth: &Growth) {
         let to_floor = ratio(line.to_floor());
         println!("{edges:>9}{own:>12}{peer:>12}{to_peer:>14}{to_floor:>14}");
     }
+}
+
+pub fn print_reductions(reductions: &[Reduction]) {
+    println!("\nReal files: accepted to kept events, the same with one edge for each two");
+    println!("entities, versions an entity, and the same with a version for each event");
+    for one in reductions {
+        let Counts {
+            entities,
+            versions,
+            edges,
+            accepted,
+            ..
+        } = one.counts;
+        println!(
+            "{:<11}{entities:>5} entities{accepted:>6} accepted{edges:>6} kept{versions:>6} versions{:>8.2}{:>8.2}{:>8.2}{:>8.2}",
+            one.name,
+            one.factor(),
+            one.by_pairs(),
+            one.versions(),
+            one.naive(),
+        );
+    }
+    let mean = |value: fn(&Reduction) -> f64| {
+        let logs: f64 = reductions.iter().map(|one| value(one).ln()).sum();
+        (logs / reductions.len() as f64).exp()
+    };
+    println!(
+        "{:<61}{:>8.2}{:>8.2}{:>8.2}{:>8.2}",
+        "geometric mean",
+        mean(Reduction::factor),
+        mean(Reduction::by_pairs),
+        mean(Reduction::versions),
+        mean(Reduction::naive),
+    );
 }
 
 pub fn print_goals(lines: &[Line], growth: &Growth) {

@@ -5,6 +5,7 @@ use crate::floor::{follow_edges, read_rows, read_tables};
 use crate::library;
 use crate::line::{Goal, Line};
 use crate::measure::{medians, repeated};
+use reference::archive::interface::{slt_backward, slt_forward};
 use reference::peer::Trail;
 use reference::Tables;
 
@@ -42,11 +43,12 @@ impl Trace {
     /// The library's refusal, count and intake.
     fn on_library(self, tables: &Tables, buffers: &mut Buffers) -> [u32; 3] {
         let Buffers { work, marks } = buffers;
+        let place = (self.entity, self.time);
         if self.is_backward {
-            let answer = library::backward(tables, self.entity, self.time, work, marks);
+            let answer = library::trace(slt_backward, tables, place, work, marks);
             [answer.refusal, answer.count, 0]
         } else {
-            let answer = library::forward(tables, self.entity, self.time, work, marks);
+            let answer = library::trace(slt_forward, tables, place, work, marks);
             [answer.refusal, answer.count, answer.intake]
         }
     }

@@ -6,7 +6,7 @@ use crate::line::{Goal, Line};
 use crate::traces::Trace;
 use reference::capacity::{MOST_EDGES, MOST_ENTITIES};
 use reference::peer::Trail;
-use reference::rows::{EdgeRow, EntityRow, VersionRow, NO_VERSION};
+use reference::rows::{EdgeRow, EntityRow, VersionRow};
 use reference::{FileBuilder, Kind, Sort, Tables};
 
 /// The versions of the worst tables for traces; more take too long.
@@ -25,11 +25,14 @@ pub fn worst() -> Vec<Line> {
 /// there are edges left. Each read by subject 2 repeats the oldest edge.
 fn repeats_of_the_oldest_edge() -> Line {
     let sorts = [Sort::Object, Sort::Subject, Sort::Subject];
-    let entities: Vec<EntityRow> = (0..).zip(sorts).map(entity).collect();
-    let versions: Vec<VersionRow> = (0..3).map(first_version).collect();
+    let entities: Vec<EntityRow> = (0..)
+        .zip(sorts)
+        .map(|(number, sort)| EntityRow::first(number, sort))
+        .collect();
+    let versions: Vec<VersionRow> = (0..3).map(VersionRow::first).collect();
     let edges = MOST_EDGES as u32;
-    let run = |time: u32| edge(0, 1, Kind::Execve, time);
-    let rows: Vec<EdgeRow> = [edge(0, 2, Kind::Read, 1)]
+    let run = |time: u32| EdgeRow::new(0, 1, Kind::Execve, time);
+    let rows: Vec<EdgeRow> = [EdgeRow::new(0, 2, Kind::Read, 1)]
         .into_iter()
         .chain((2..=edges).map(run))
         .collect();
@@ -63,42 +66,17 @@ fn traces_against_the_edges(versions: u32) -> Vec<Line> {
 
 fn chain_of_forks(count: u32) -> Tables {
     let entities = count.min(MOST_ENTITIES as u32);
-    let subject = |number| entity((number, Sort::Subject));
+    let subject = |number| EntityRow::first(number, Sort::Subject);
     let mut entity_rows: Vec<EntityRow> = (0..entities).map(subject).collect();
     let last = (count - 1) % entities;
     entity_rows[last as usize].latest = count - 1;
-    let version = |number: u32| first_version(number % entities);
+    let version = |number: u32| VersionRow::first(number % entities);
     let versions: Vec<VersionRow> = (0..count).map(version).collect();
     let fork = |number: u32| {
         let from = count - 2 - number / 4;
-        edge(from, from + 1, Kind::Fork, number + 1)
+        EdgeRow::new(from, from + 1, Kind::Fork, number + 1)
     };
     let edges: Vec<EdgeRow> = (0..4 * (count - 1)).map(fork).collect();
     let accepted = edges.len() as u32;
     Tables::of_rows(&entity_rows, &versions, &edges, accepted, accepted)
-}
-
-fn entity((number, sort): (u32, Sort)) -> EntityRow {
-    EntityRow {
-        sort: sort.number(),
-        latest: number,
-    }
-}
-
-fn first_version(entity: u32) -> VersionRow {
-    VersionRow {
-        entity,
-        start: 0,
-        end: 0,
-        previous: NO_VERSION,
-    }
-}
-
-fn edge(from: u32, to: u32, kind: Kind, time: u32) -> EdgeRow {
-    EdgeRow {
-        from,
-        to,
-        kind: kind.number(),
-        time,
-    }
 }

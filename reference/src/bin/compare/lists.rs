@@ -5,7 +5,7 @@ use crate::calls::{times_of, traces, BufferLengths};
 use crate::comparison::{Compared, Comparison, Made};
 use crate::difference::{differ, Difference};
 use reference::generate::{call_list, lend_anew, LentCall};
-use reference::{Answer, Call, Capacity, FullList, Random, TableLengths, Tables};
+use reference::{Answer, Call, FullList, Random, TableLengths, Tables};
 
 const LISTS: usize = 60;
 const CALLS: usize = 14;
@@ -59,7 +59,7 @@ impl ListTrail {
     pub fn call(&mut self, comparison: &mut Comparison, call: Call) -> Compared {
         let made = comparison.call(&self.tables, call.clone())?;
         let capacity = self.tables.view().capacity();
-        let (answer, marks) = run_on_list(&mut self.list, capacity, call.clone());
+        let (answer, marks) = self.list.run(capacity, call.clone());
         let place = differ_from_list(&made, &self.list, answer, marks);
         match place {
             Some(place) => Err(Difference::new(&self.tables, &call, place)),
@@ -120,31 +120,5 @@ fn marks_of(call: &Call) -> &[u8] {
     match call {
         Call::Backward { marks, .. } | Call::Forward { marks, .. } => marks,
         _ => &[],
-    }
-}
-
-/// The answer of the full list and the mark buffer of a trace.
-fn run_on_list(list: &mut FullList, capacity: Capacity, call: Call) -> (Answer, Vec<u8>) {
-    match call {
-        Call::Batch { file } => (Answer::Batch(list.batch(capacity, &file)), Vec::new()),
-        Call::Backward {
-            entity,
-            time,
-            work,
-            mut marks,
-        } => {
-            let answer = list.backward(entity, time, work.len(), &mut marks);
-            (Answer::Backward(answer), marks)
-        }
-        Call::Forward {
-            entity,
-            time,
-            work,
-            mut marks,
-        } => {
-            let answer = list.forward(entity, time, work.len(), &mut marks);
-            (Answer::Forward(answer), marks)
-        }
-        Call::KeptLog { .. } => panic!("a list of calls has batches and traces"),
     }
 }

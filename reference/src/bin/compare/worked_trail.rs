@@ -3,24 +3,7 @@
 
 use crate::comparison::{Compared, Comparison};
 use reference::generate::lend_anew;
-use reference::{FileBuilder, Random, TableLengths, Tables};
-
-/// The event file of the worked trail.
-pub fn worked_file() -> Vec<u8> {
-    FileBuilder::new()
-        .object(0)
-        .subject(1)
-        .object(2)
-        .object(3)
-        .read(0, 1, 1)
-        .write(1, 2, 2)
-        .read(0, 1, 3)
-        .write(1, 2, 4)
-        .read(3, 1, 5)
-        .write(1, 2, 6)
-        .read(3, 1, 7)
-        .bytes()
-}
+use reference::{worked_file, Random, TableLengths, Tables};
 
 /// A fresh trail in tables of these lengths, which hold anything.
 fn fresh(random: &mut Random, lengths: TableLengths) -> Tables {

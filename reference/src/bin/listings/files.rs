@@ -3,7 +3,7 @@
 use reference::file::HEADER_BYTES;
 use reference::generate::{any_file, careless_file, damaged_file, long_file, RecordSource};
 use reference::listing::MOST_BYTES;
-use reference::{FileBuilder, Kind, Random};
+use reference::{worked_file, worked_file_from, FileBuilder, Kind, Random};
 
 const ANY: usize = 250;
 const CARELESS: usize = 150;
@@ -13,30 +13,13 @@ const MOST_RECORDS: u16 = 2_730;
 
 pub fn files(random: &mut Random) -> Vec<Vec<u8>> {
     let mut files = vec![FileBuilder::new().bytes()];
-    files.extend(cuts(&worked_file(1)));
-    files.push(worked_file(0));
-    files.extend(damaged_headers(&worked_file(1)));
+    files.extend(cuts(&worked_file()));
+    files.push(worked_file_from(0));
+    files.extend(damaged_headers(&worked_file()));
     files.extend(any_files(random));
     files.extend(longest_files(random));
     files.extend(files_too_long(random));
     files
-}
-
-/// The event file of the worked trail, its first event at this time.
-fn worked_file(time: u32) -> Vec<u8> {
-    FileBuilder::new()
-        .object(0)
-        .subject(1)
-        .object(2)
-        .object(3)
-        .read(0, 1, time)
-        .write(1, 2, 2)
-        .read(0, 1, 3)
-        .write(1, 2, 4)
-        .read(3, 1, 5)
-        .write(1, 2, 6)
-        .read(3, 1, 7)
-        .bytes()
 }
 
 /// The file up to each of its bytes, none and all included.
