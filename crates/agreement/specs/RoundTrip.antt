@@ -1,5 +1,5 @@
--- Document 01, demand 2's round trip: the kept log, taken into a fresh trail with as many rows, yields the same entities,
--- kept events and traces. "Version numbers may differ after it is taken in again; work buffers are not compared then."
+-- Demand 2's round trip: the kept log, taken into a fresh trail with as many rows, yields the same entities, kept events and
+-- traces. Document 01: "Version numbers may differ after it is taken in again; work buffers are not compared then."
 use Prim.Native.Nat.{ℕ, _+_, _≤_, _<_}
 use mathlib.Core.Path.{_≡_}
 use mathlib.Core.List.{List, [], _∷_}
@@ -20,13 +20,13 @@ AllBytes (batch t file ∷ cs) = Bytes file × AllBytes cs
 AllBytes (backward t v time work marks ∷ cs) = AllBytes cs
 AllBytes (forward t u time work marks ∷ cs) = AllBytes cs
 
--- "with as many rows" as are in use
+-- with as many rows as are in use
 pub record Room (cap : Capacity) (c : Counts) : Type 0 where
   pub entities : c .entities ≤ cap .entities
   pub versions : c .versions ≤ cap .versions
   pub edges : c .edges ≤ cap .edges
 
--- "the same entities, kept events and traces": those of U are those of T
+-- the same entities, kept events and traces: those of U are those of T
 pub record SameTrail (T U : Trail) : Type 0 where
   pub entities : U .counts .entities ≡ T .counts .entities
   pub sorts : (x : ℕ) → x < T .counts .entities → U .entity x .sort ≡ T .entity x .sort
