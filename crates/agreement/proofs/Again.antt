@@ -24,7 +24,7 @@ use Rattle.soundness.proofs.Taken.{event-taken}
 use Rattle.soundness.proofs.Put.{put-other}
 use Rattle.causality.specs.Working.{Grown}
 use Rattle.agreement.specs.Taken.{Within, Taken, begun, next}
-use Rattle.agreement.specs.RoundTrip.{Room}
+use Rattle.agreement.specs.RoundTrip.{EnoughRows}
 use Rattle.agreement.proofs.Plain.{taken-fine}
 use Rattle.agreement.proofs.KeptOnly.{allKept, keptEvents-allKept}
 use Rattle.agreement.proofs.Decided.{decision-again}
@@ -70,7 +70,7 @@ pub record Regrown (cap : Capacity) (F T : Trail) (ks : List Event) : Type 0 whe
   pub accepted : worked (relogged F ks) .counts .accepted ≤ T .counts .accepted
   pub last : worked (relogged F ks) .counts .last ≤ T .counts .last
 
-module _ (F : Trail) (cap : Capacity) (w : Within cap) (room : Room cap (F .counts)) where
+module _ (F : Trail) (cap : Capacity) (w : Within cap) (room : EnoughRows cap (F .counts)) where
   -- The events
   module _ {hs : List Item} (T : Trail) (e : Event) (d : Decision) (cap₀ : Capacity) (g : Grown T hs) (q : decisionOf T e ≡ d) (k : keeps d ≡ true)
       (p : EventTaken cap₀ T e d) (b : Before (changed T (happened T e d)) F) (r : Regrown cap F T (keptEvents hs)) where

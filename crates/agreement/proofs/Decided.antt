@@ -13,7 +13,7 @@ use Rattle.record.specs.declared.Event.{Event}
 use Rattle.rules.specs.declared.Found.{Found}
 use Rattle.rules.specs.declared.Found.the-variants.{At, Nothing}
 use Rattle.rules.specs.Trail.{Trail, latestOf, ownerOf}
-use Rattle.rules.specs.Decide.{edgeNo, goesTo, newestTo, leaves, folds, repeatOf, gives, decide, decisionOf, keeps}
+use Rattle.rules.specs.Decide.{edgeNo, goesTo, newestTo, leaves, folds, repeatOf, hasOutgoing, decide, decisionOf, keeps}
 use Rattle.rules.specs.History.{Item, keptEvents}
 use Rattle.causality.specs.Working.{ne, Grown}
 use Rattle.agreement.proofs.Growing.{Goes, newestTo-found, leaves-none}
@@ -71,18 +71,18 @@ module _ {T U : Trail} {hs js : List Item} (g : Grown T hs) (i : Grown U js) (q 
           let x = edge-again i g (sym q) u v k h (edge-to U u v (j .0) (z .0) (z .1 .0) (z .1 .1)) in
           absurd (newestTo-none (T .edge) (T .version) _ _ _ n (x .edge .number) (x .edge .inside) (x .edge .from, ap (ownerOf T) (x .edge .to) ∙ x .owner))
 
-  gives-some : (x : ℕ) → x < ne T → x < ne U → gives T x ≡ true → gives U x ≡ false → ⊥
-  unfolding gives
+  gives-some : (x : ℕ) → x < ne T → x < ne U → hasOutgoing T x ≡ true → hasOutgoing U x ≡ false → ⊥
+  unfolding hasOutgoing
   gives-some x h k a b =
       let z = leaves-some (T .edge) (latestOf T x) (T .counts .edges) a in
       let y = edge-again g i q x _ h k (edge-to T x _ (z .0) (z .1) (z .2) refl) in
       leaves-none (U .edge) _ _ b (y .edge .number) (y .edge .inside) (y .edge .from)
 
 module _ {T U : Trail} {hs js : List Item} (g : Grown T hs) (i : Grown U js) (q : keptEvents hs ≡ keptEvents js) where
-  gives-again : (x : ℕ) → x < ne T → x < ne U → gives U x ≡ gives T x
-  gives-again x h k = go (gives T x) refl (gives U x) refl
+  gives-again : (x : ℕ) → x < ne T → x < ne U → hasOutgoing U x ≡ hasOutgoing T x
+  gives-again x h k = go (hasOutgoing T x) refl (hasOutgoing U x) refl
     where
-      go : (a : Bool) → gives T x ≡ a → (b : Bool) → gives U x ≡ b → b ≡ a
+      go : (a : Bool) → hasOutgoing T x ≡ a → (b : Bool) → hasOutgoing U x ≡ b → b ≡ a
       go true p true r = refl
       go false p false r = refl
       go true p false r = absurd (gives-some g i q x h k p r)
@@ -106,5 +106,5 @@ module _ {T U : Trail} {hs js : List Item} (g : Grown T hs) (i : Grown U js) (q 
     pub decision-again : keeps (decisionOf T e) ≡ true → decisionOf U e ≡ decisionOf T e
     unfolding decisionOf
     decision-again h =
-        let n = kept-nothing (repeatOf T e) (gives T (e .target .0)) h in
+        let n = kept-nothing (repeatOf T e) (hasOutgoing T (e .target .0)) h in
         rw (n, repeat-again n, gives-again (e .target .0) target-in target-again)

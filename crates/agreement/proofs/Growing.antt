@@ -19,7 +19,7 @@ use Rattle.rules.specs.declared.Found.the-variants.{At, Nothing}
 use Rattle.rules.specs.declared.Decision.{Decision}
 use Rattle.rules.specs.declared.Decision.the-variants.{Repeat, Widen}
 use Rattle.rules.specs.Trail.{Capacity, Trail, none, latestOf}
-use Rattle.rules.specs.Decide.{edgeNo, goesTo, newestTo, leaves, folds, repeatOf, gives, decide, decisionOf}
+use Rattle.rules.specs.Decide.{edgeNo, goesTo, newestTo, leaves, folds, repeatOf, hasOutgoing, decide, decisionOf}
 use Rattle.rules.specs.Record.{declared, repeated, widened, renewed}
 use Rattle.rules.specs.PlainList.{changed}
 use Rattle.rules.specs.Forward.{ForwardMarks}
@@ -31,7 +31,7 @@ use Rattle.soundness.proofs.Declared as by-declaration
 use Rattle.soundness.proofs.Repeated.{repeated-extends}
 use Rattle.soundness.proofs.Widened.{widened-extends}
 use Rattle.soundness.proofs.Renewed as by-renewal
-use Rattle.causality.specs.Working.{Leads, Unused, Keeps, Same, Declares, Enters}
+use Rattle.causality.specs.Working.{Leads, Unused, Keeps, Same, Declares, AddsEdge}
 
 -- What the searches find
 
@@ -95,7 +95,7 @@ module _ (T : Trail) (e : Event) where
   repeat-may-drop k h = repeat-leads k (decided _ _ k h)
 
   widen-unused : decisionOf T e ≡ Widen → Unused T (latestOf T (e .target .0))
-  unfolding decisionOf gives
+  unfolding decisionOf hasOutgoing
   widen-unused h b t i = leaves-none (T .edge) _ _ (decided-widen (repeatOf T e) _ h) (i .number) (i .inside) (i .from)
 
 -- What each record does to the rows
@@ -128,7 +128,7 @@ module _ (cap : Capacity) (T : Trail) (e : Event) (d : Decision) (p : EventTaken
   pub repeats : Same T (changed T (repeated T e))
   repeats = record { ne-is = refl; nv-is = refl; nd-is = refl; latest-old = λ y l. refl; old = keeps (repeated-extends cap T e d p) }
 
-  pub widens : decisionOf T e ≡ Widen → Enters T (changed T (widened T e)) e (latestOf T (e .target .0))
+  pub widens : decisionOf T e ≡ Widen → AddsEdge T (changed T (widened T e)) e (latestOf T (e .target .0))
   widens h = record {
     ne-is = refl;
     nd-is = add-one _;
@@ -143,7 +143,7 @@ module _ (cap : Capacity) (T : Trail) (e : Event) (d : Decision) (p : EventTaken
   }
 
   -- the old latest version is not numbered as none
-  pub renews : (latestOf T (e .target .0) ≡ none → ⊥) → Enters T (changed T (renewed T e)) e (T .counts .versions)
+  pub renews : (latestOf T (e .target .0) ≡ none → ⊥) → AddsEdge T (changed T (renewed T e)) e (T .counts .versions)
   renews few = record {
     ne-is = refl;
     nd-is = add-one _;

@@ -14,7 +14,7 @@ use Rattle.rules.specs.Calls.{Held, Lent}
 use Rattle.soundness.specs.Facts.{RowFacts}
 use Rattle.closure.specs.Same.{SameRows}
 use Rattle.closure.proofs.SameFacts.{same-extends}
-use Rattle.causality.specs.Working.{Marked, Same, Grown}
+use Rattle.causality.specs.Working.{EntityMarked, Same, Grown}
 use Rattle.causality.specs.Statements.{Faithful, Document01}
 use Rattle.causality.proofs.Same.{grown-same}
 use Rattle.causality.proofs.Theorem.{claims}
@@ -32,7 +32,7 @@ same s q = record {
 }
 
 -- a marked version of an entity, as the computed marks and as the trace theorem has it
-pub marked-some : {T : Trail} {M : ℕ → Type 0} {x : ℕ} → ((w : ℕ) × M w × (ownerOf T w ≡ x)) ↔ Marked T M x
+pub marked-some : {T : Trail} {M : ℕ → Type 0} {x : ℕ} → ((w : ℕ) × M w × (ownerOf T w ≡ x)) ↔ EntityMarked T M x
 marked-some = (λ z. record { version = z .0; marked = z .1; owner = z .2 }, λ m. (m .version, m .marked, m .owner))
 
 pub record Known (U : Trail) (n : ℕ) (hs : List Item) : Type 0 where

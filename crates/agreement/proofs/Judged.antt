@@ -15,8 +15,8 @@ use Rattle.record.specs.declared.Record.{Record}
 use Rattle.record.specs.declared.Record.the-variants as records
 use Rattle.rules.specs.declared.Found.the-variants.{Nothing, At}
 use Rattle.rules.specs.Trail.{Capacity, Trail, latestOf}
-use Rattle.rules.specs.Decide.{goesTo, newestTo, leaves, folds, repeatOf, gives, decide, decisionOf, edgeNo}
-use Rattle.rules.specs.Record.{declarationRefusals, eventRefusals, refusalOf}
+use Rattle.rules.specs.Decide.{goesTo, newestTo, leaves, folds, repeatOf, hasOutgoing, decide, decisionOf, edgeNo}
+use Rattle.rules.specs.Record.{declarationRefusals, endRefusals, timeRefusals, roomRefusals, eventRefusals, refusalOf}
 use Rattle.soundness.specs.Facts.{RowFacts}
 use Rattle.closure.specs.Same.{SameRows}
 
@@ -56,8 +56,8 @@ module _ {T T′ : Trail} (q : T .counts ≡ T′ .counts) (s : SameRows T T′)
         (λ n l. s .version-rows (T .edge n .to .0) (f .edge n l .to-in)) in
         λ j. cond (folds (e .kind)) ((a ∙ (λ h. newestTo (T′ .edge) (T′ .version) (latest-same (e .source .0) i h) (e .target .0) (s .edges h))) j) Nothing
 
-    gives-same : gives T (e .target .0) ≡ gives T′ (e .target .0)
-    unfolding gives
+    gives-same : hasOutgoing T (e .target .0) ≡ hasOutgoing T′ (e .target .0)
+    unfolding hasOutgoing
     gives-same =
         leaves-same (T .edge) (T′ .edge) (latestOf T (e .target .0)) (T .counts .edges) (s .edge-rows)
         ∙ (λ h. leaves (T′ .edge) (latest-same (e .target .0) k h) (s .edges h))
@@ -68,13 +68,13 @@ module _ {T T′ : Trail} (q : T .counts ≡ T′ .counts) (s : SameRows T T′)
 
     -- what the refusals of an event read of a trail
     refused-same : (cap : Capacity) → firstOf (eventRefusals cap T e (decisionOf T e)) ≡ firstOf (eventRefusals cap T′ e (decisionOf T′ e))
-    unfolding eventRefusals
+    unfolding endRefusals timeRefusals roomRefusals eventRefusals
     refused-same cap = rw (decision-same, sort-same (e .source .0) i, sort-same (e .target .0) k, q)
 
   -- an undeclared entity is refused before anything is read of it
   undeclared-same : (cap : Capacity) (e : Event) → (b : Bool) → leb (T .counts .entities) (e .source .0) ≡ b → (c : Bool) → leb (T .counts .entities) (e .target .0) ≡ c
       → firstOf (eventRefusals cap T e (decisionOf T e)) ≡ firstOf (eventRefusals cap T′ e (decisionOf T′ e))
-  unfolding eventRefusals firstOf
+  unfolding endRefusals timeRefusals roomRefusals eventRefusals firstOf
   undeclared-same cap e true b c z = rw (b, ← q, b)
   undeclared-same cap e false b true z = rw (b, z, ← q, b, z)
   undeclared-same cap e false b false z = refused-same e (leb-false _ _ b) (leb-false _ _ z) cap

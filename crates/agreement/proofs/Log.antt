@@ -12,13 +12,13 @@ use Rattle.record.specs.declared.Record.the-variants as records
 use Rattle.record.specs.Layout.{kindOf}
 use Rattle.record.proofs.Numbers.{kindOf-kindNo}
 use Rattle.rules.specs.Trail.{Trail}
-use Rattle.rules.specs.KeptLog.{declarationOf, eventOf}
+use Rattle.rules.specs.KeptLog.{declarationRecord, eventRecord}
 use Rattle.causality.specs.Statements.{EdgeFor, Logged}
 use Rattle.kept_log.specs.LogRecords.{recordsBelow, logRecords}
 use Rattle.agreement.proofs.Relogged.{descending, relogged}
 
 -- edge k as an event is the one that it was kept for
-event-is : (T : Trail) (k : ℕ) (e : Event) → EdgeFor T k e → eventOf T k ≡ records.Event e
+event-is : (T : Trail) (k : ℕ) (e : Event) → EdgeFor T k e → eventRecord T k ≡ records.Event e
 event-is T k e f = λ j.
     records.Event (record {
       kind = (ap kindOf (f .kind) ∙ kindOf-kindNo (e .kind)) j;
@@ -28,11 +28,11 @@ event-is T k e f = λ j.
     })
 
 -- two trails whose edges are for the same events
-pub events-same : (T U : Trail) (ks : List Event) → Logged T ks → Logged U ks → (k : ℕ) → k < length ks → eventOf U k ≡ eventOf T k
+pub events-same : (T U : Trail) (ks : List Event) → Logged T ks → Logged U ks → (k : ℕ) → k < length ks → eventRecord U k ≡ eventRecord T k
 events-same T U [] a b k l = absurd (omega arith)
 events-same T U (e ∷ ks) a b k l = go (ℕ-discrete k (length ks)) (λ h. events-same T U ks (a .1) (b .1) k h)
   where
-    go : Dec (k ≡ length ks) → (k < length ks → eventOf U k ≡ eventOf T k) → eventOf U k ≡ eventOf T k
+    go : Dec (k ≡ length ks) → (k < length ks → eventRecord U k ≡ eventRecord T k) → eventRecord U k ≡ eventRecord T k
     go (yes q) ih = rw q (event-is U (length ks) e (b .0) ∙ sym (event-is T (length ks) e (a .0)))
     go (no q) ih = ih (omega arith)
 
@@ -41,15 +41,15 @@ unfolding recordsBelow
 recordsBelow-reverse f zero more = refl
 recordsBelow-reverse f (suc n) more = append-assoc (recordsBelow f n) (f n ∷ []) more ∙ recordsBelow-reverse f n (f n ∷ more)
 
-relogged-is : (T : Trail) (ks : List Event) → Logged T ks → relogged T ks ≡ descending (eventOf T) (length ks) ++ descending (declarationOf T) (T .counts .entities)
+relogged-is : (T : Trail) (ks : List Event) → Logged T ks → relogged T ks ≡ descending (eventRecord T) (length ks) ++ descending (declarationRecord T) (T .counts .entities)
 relogged-is T [] a = refl
 relogged-is T (e ∷ ks) a = λ j. sym (event-is T (length ks) e (a .0)) j ∷ relogged-is T ks (a .1) j
 
 pub logRecords-reverse : (T : Trail) (ks : List Event) → T .counts .edges ≡ length ks → Logged T ks → logRecords T ≡ reverse (relogged T ks)
 unfolding logRecords
 logRecords-reverse T ks q a =
-    let D = descending (declarationOf T) (T .counts .entities) in
-    let E = descending (eventOf T) (length ks) in
-    let e : recordsBelow (eventOf T) (T .counts .edges) ≡ reverseAux E []
-    = ap (recordsBelow (eventOf T)) q ∙ sym (append-nil (recordsBelow (eventOf T) (length ks))) ∙ recordsBelow-reverse (eventOf T) (length ks) [] in
-    recordsBelow-reverse (declarationOf T) (T .counts .entities) _ ∙ ap (reverseAux D) e ∙ sym (reverseAux-append E D []) ∙ ap reverse (sym (relogged-is T ks a))
+    let D = descending (declarationRecord T) (T .counts .entities) in
+    let E = descending (eventRecord T) (length ks) in
+    let e : recordsBelow (eventRecord T) (T .counts .edges) ≡ reverseAux E []
+    = ap (recordsBelow (eventRecord T)) q ∙ sym (append-nil (recordsBelow (eventRecord T) (length ks))) ∙ recordsBelow-reverse (eventRecord T) (length ks) [] in
+    recordsBelow-reverse (declarationRecord T) (T .counts .entities) _ ∙ ap (reverseAux D) e ∙ sym (reverseAux-append E D []) ∙ ap reverse (sym (relogged-is T ks a))

@@ -18,7 +18,7 @@ use Rattle.rules.specs.Trail.{Tables, Capacity, capacityOf, trailOf}
 use Rattle.rules.specs.Sound.{isSound}
 use Rattle.rules.specs.Record.{refusalOf, stepOf}
 use Rattle.rules.specs.PlainList.{worked, itemsOf, added, addedBy}
-use Rattle.rules.specs.Batch.{Batched, batched, unless, contentsOf, takeIn, batchChecks, batchOf}
+use Rattle.rules.specs.Batch.{Batched, batched, ifRefused, contentsOf, takeIn, batchChecks, batchOf}
 use Rattle.rules.specs.Calls.{Call, batch, backward, forward, Held, heldAfter, Lent, AllLent, plainAfter}
 use Rattle.soundness.specs.Facts.{CountFacts, RowFacts}
 use Rattle.soundness.specs.Taken.{SortFits, Each}
@@ -122,7 +122,7 @@ module _ (cap : Capacity) (w : Within cap) where
       stop x = batched x n c t
 
       go : (x : Checked) → refusalOf cap (worked rs) r ≡ x → (refusalOf cap (worked rs) r ≡ Passed → Ready cap (rest .counts) (rest .tables) (added cap (r ∷ rs) more))
-          → Ready cap (unless x (stop x) rest .counts) (unless x (stop x) rest .tables) (unless x rs (added cap (r ∷ rs) more))
+          → Ready cap (ifRefused x (stop x) rest .counts) (ifRefused x (stop x) rest .tables) (ifRefused x rs (added cap (r ∷ rs) more))
       go Passed q ih = ih q
       go (Refused x) q ih = y
 
@@ -137,7 +137,7 @@ module _ (cap : Capacity) (w : Within cap) where
       rest = takeIn c t 0 (contentsOf file .records) (contentsOf file .ending)
 
       go : (x : Checked) → Ready cap (rest .counts) (rest .tables) (added cap rs (contentsOf file .records))
-          → Ready cap (unless x (batched x 0 c t) rest .counts) (unless x (batched x 0 c t) rest .tables) (unless x rs (added cap rs (contentsOf file .records)))
+          → Ready cap (ifRefused x (batched x 0 c t) rest .counts) (ifRefused x (batched x 0 c t) rest .tables) (ifRefused x rs (added cap rs (contentsOf file .records)))
       go Passed z = z
       go (Refused x) z = y
 

@@ -14,9 +14,9 @@ use Rattle.record.specs.declared.Event.{Event}
 use Rattle.rules.specs.declared.Decision.{Decision}
 use Rattle.rules.specs.declared.Decision.the-variants.{Repeat, Widen, Renew}
 use Rattle.rules.specs.Trail.{Capacity, Trail}
-use Rattle.rules.specs.Sound.{follows}
+use Rattle.rules.specs.Sound.{mayFollow}
 use Rattle.rules.specs.Decide.{keeps, makes}
-use Rattle.rules.specs.Record.{declarationRefusals, eventRefusals, happened}
+use Rattle.rules.specs.Record.{declarationRefusals, endRefusals, timeRefusals, roomRefusals, eventRefusals, happened}
 use Rattle.rules.specs.PlainList.{changed}
 use Rattle.soundness.specs.Taken.{DeclarationTaken, EventTaken}
 use Rattle.soundness.proofs.Put.{put-keeps}
@@ -32,7 +32,7 @@ left true n m h = lt-leb n m (h refl)
 left false n m h = refl
 
 pub event-passes : (cap : Capacity) (T : Trail) (e : Event) (d : Decision) → EventTaken cap T e d → firstOf (eventRefusals cap T e d) ≡ Passed
-unfolding eventRefusals follows
+unfolding endRefusals timeRefusals roomRefusals eventRefusals mayFollow
 event-passes cap T e d p =
     all-false-passed _ (
       lt-leb _ _ (p .source-in),

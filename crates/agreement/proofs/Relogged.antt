@@ -13,11 +13,11 @@ use Rattle.record.specs.Layout.{mostSort}
 use Rattle.rules.specs.Trail.{Capacity, Trail}
 use Rattle.rules.specs.Record.{refusalOf, changeOf}
 use Rattle.rules.specs.PlainList.{worked, itemsOf}
-use Rattle.rules.specs.KeptLog.{declarationOf}
+use Rattle.rules.specs.KeptLog.{declarationRecord}
 use Rattle.soundness.specs.Taken.{SortFits}
 use Rattle.soundness.proofs.Put.{put-same, put-other}
 use Rattle.agreement.specs.Taken.{Within, Taken, begun, next}
-use Rattle.agreement.specs.RoundTrip.{Room}
+use Rattle.agreement.specs.RoundTrip.{EnoughRows}
 use Rattle.agreement.proofs.Passing.{declaration-passes}
 
 -- the records of f below n, the last first
@@ -27,7 +27,7 @@ descending f (suc k) = f k ∷ descending f k
 
 -- kept events, the last first, in front of the declarations of F
 abbrev pub relogged : Trail → List Event → List Record
-relogged F [] = descending (declarationOf F) (F .counts .entities)
+relogged F [] = descending (declarationRecord F) (F .counts .entities)
 relogged F (e ∷ ks) = records.Event e ∷ relogged F ks
 
 -- each record is taken in with capacity cap
@@ -50,9 +50,9 @@ pub record Declared (cap : Capacity) (F : Trail) (n : ℕ) (rs : List Record) : 
   pub last : worked rs .counts .last ≡ 0
   pub sorts : (x : ℕ) → x < n → worked rs .entity x .sort ≡ F .entity x .sort
 
-module _ (F : Trail) (cap : Capacity) (room : Room cap (F .counts)) (low : (x : ℕ) → x < F .counts .entities → F .entity x .sort ≤ mostSort)
+module _ (F : Trail) (cap : Capacity) (room : EnoughRows cap (F .counts)) (low : (x : ℕ) → x < F .counts .entities → F .entity x .sort ≤ mostSort)
     (few : F .counts .entities ≤ F .counts .versions) where
-  declares-next : (n : ℕ) (rs : List Record) → n < F .counts .entities → Declared cap F n rs → Declared cap F (suc n) (declarationOf F n ∷ rs)
+  declares-next : (n : ℕ) (rs : List Record) → n < F .counts .entities → Declared cap F n rs → Declared cap F (suc n) (declarationRecord F n ∷ rs)
   unfolding refusalOf changeOf
   declares-next n rs l o = record {
     by = ((low n l, passes), o .by);
@@ -65,21 +65,21 @@ module _ (F : Trail) (cap : Capacity) (room : Room cap (F .counts)) (low : (x : 
     sorts = λ x h. go x h (ℕ-discrete x n);
   }
     where
-      passes : refusalOf cap (worked rs) (declarationOf F n) ≡ Passed
+      passes : refusalOf cap (worked rs) (declarationRecord F n) ≡ Passed
       passes = declaration-passes cap (worked rs .counts) _ (record {
         next = sym (o .entities);
         entities-left = omega (arith, o .entities, room .entities);
         versions-left = omega (arith, o .versions, room .versions);
       })
 
-      go : (x : ℕ) → x < suc n → Dec (x ≡ n) → worked (declarationOf F n ∷ rs) .entity x .sort ≡ F .entity x .sort
+      go : (x : ℕ) → x < suc n → Dec (x ≡ n) → worked (declarationRecord F n ∷ rs) .entity x .sort ≡ F .entity x .sort
       go x h (yes q) =
-          ap (λ (y : ℕ). worked (declarationOf F n ∷ rs) .entity y .sort) (q ∙ sym (o .entities))
+          ap (λ (y : ℕ). worked (declarationRecord F n ∷ rs) .entity y .sort) (q ∙ sym (o .entities))
           ∙ ap (λ (r : EntityRow). r .sort) (put-same (worked rs .entity) _ _) ∙ ap (λ (y : ℕ). F .entity y .sort) (sym q)
       go x h (no q) =
           ap (λ (r : EntityRow). r .sort) (put-other (worked rs .entity) _ _ x (λ z. q (z ∙ o .entities))) ∙ o .sorts x (omega arith)
 
-  pub declares : (n : ℕ) → n ≤ F .counts .entities → Declared cap F n (descending (declarationOf F) n)
+  pub declares : (n : ℕ) → n ≤ F .counts .entities → Declared cap F n (descending (declarationRecord F) n)
   declares zero l = record {
     by = tt;
     items = refl;

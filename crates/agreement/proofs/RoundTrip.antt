@@ -21,9 +21,9 @@ use Rattle.rules.specs.Trail.{Tables, capacityOf, Trail, trailOf, freshCounts}
 use Rattle.rules.specs.Sound.{isSound}
 use Rattle.rules.specs.PlainList.{worked, itemsOf}
 use Rattle.rules.specs.History.{keptEvents}
-use Rattle.rules.specs.Batch.{unless, contentsOf, batchOf}
+use Rattle.rules.specs.Batch.{ifRefused, contentsOf, batchOf}
 use Rattle.rules.specs.Marks.{overlaid}
-use Rattle.rules.specs.KeptLog.{KeptLog, logBytes, logLength, logChecks, keptLogOf}
+use Rattle.rules.specs.KeptLog.{KeptLog, logBytes, logChecks, keptLog, keptLogOf}
 use Rattle.rules.specs.Calls.{Held, held, heldAfter, Lent, plainAfter}
 use Rattle.soundness.specs.Facts.{CountFacts}
 use Rattle.soundness.proofs.Facts.{sound-counts}
@@ -31,8 +31,8 @@ use Rattle.soundness.proofs.Tests.{sort-low}
 use Rattle.causality.specs.Statements.{Logged}
 use Rattle.kept_log.specs.LogRecords.{logRecords, wholly}
 use Rattle.kept_log.proofs.LogRecords.{length-logRecords}
-use Rattle.kept_log.proofs.ReadBack.{log-answer, log-taken-header, log-taken-contents}
-use Rattle.agreement.specs.RoundTrip.{Room, SameTrail, TakenAgain, RoundTrip}
+use Rattle.kept_log.proofs.ReadBack.{log-taken-header, log-taken-contents}
+use Rattle.agreement.specs.RoundTrip.{EnoughRows, SameTrail, TakenAgain, RoundTrip}
 use Rattle.agreement.proofs.Matching.{Matches, matches, lent-alike, lent-rows, lent-sound, Ready, capacity-within}
 use Rattle.agreement.proofs.Held.{Known, known}
 use Rattle.agreement.proofs.KeptOnly.{allKept, keptEvents-allKept}
@@ -62,17 +62,17 @@ short b = cond b (Refused OutputShort) Passed
 
 log-passed : (c : Counts) (t : Tables) (out : List ℕ) → isSound (capacityOf t) (trailOf c t) ≡ true → keptLogOf c t out .answer .refusal ≡ 0 → firstOf (logChecks c t out) ≡ Passed
 unfolding keptLogOf logChecks firstOf
-log-passed c t out s = rw s (go (ltb (length out) (logLength c)))
+log-passed c t out s = rw s (go (ltb (length out) (length (logBytes (trailOf c t)))))
   where
-    go : (b : Bool) → unless {A = KeptLog} (short b) (record { answer = record { refusal = numberOf (short b); length = 0 }; out = out })
-        (record { answer = record { refusal = 0; length = logLength c }; out = overlaid (logBytes (trailOf c t)) out }) .answer .refusal ≡ 0
+    go : (b : Bool) → ifRefused {A = KeptLog} (short b) (keptLog (record { refusal = numberOf (short b); length = 0 }) out)
+        (keptLog (record { refusal = 0; length = length (logBytes (trailOf c t)) }) (overlaid (logBytes (trailOf c t)) out)) .answer .refusal ≡ 0
         → short b ≡ Passed
     go true q = absurd (omega arith)
     go false q = refl
 
 -- Tables lent what stands in h, and a fresh trail that takes in their log
 
-module _ (h : Held) (rs : List Record) (m : Matches h rs) (t : Tables) (l : Lent h t) (lent : Tables) (room : Room (capacityOf lent) (h .counts)) where
+module _ (h : Held) (rs : List Record) (m : Matches h rs) (t : Tables) (l : Lent h t) (lent : Tables) (room : EnoughRows (capacityOf lent) (h .counts)) where
   abbrev T : Trail
   T = trailOf (h .counts) t
 
@@ -149,5 +149,4 @@ round-trip cs a b t l out q lent room =
     let c = heldAfter cs .counts in
     let p = log-passed c t out (lent-sound _ _ m t l) q in
     let small : c .last < 4294967296 = omega (arith, last-small cs b, ap (λ (k : Counts). k .last) (m .alike .counts)) in
-    subst (λ (n : ℕ). TakenAgain c t (batchOf freshCounts lent (take n (keptLogOf c t out .out)))) (sym (ap (λ (x : LogAnswer). x .length) (log-answer c t out p)))
-    (taken-again (heldAfter cs) (plainAfter cs) m t l lent room (take (logLength c) (keptLogOf c t out .out)) (log-taken-header c t out p) (log-taken-contents c t out p small))
+    taken-again (heldAfter cs) (plainAfter cs) m t l lent room _ (log-taken-header c t out p) (log-taken-contents c t out p small)

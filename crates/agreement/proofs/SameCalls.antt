@@ -16,17 +16,17 @@ use Rattle.record.specs.Layout.{headerLength, recordLength}
 use Rattle.record.specs.Encode.{headerBytes}
 use Rattle.rules.specs.Trail.{Tables, capacityOf, trailOf}
 use Rattle.rules.specs.Sound.{isSound}
-use Rattle.rules.specs.Batch.{unless}
+use Rattle.rules.specs.Batch.{ifRefused}
 use Rattle.rules.specs.Marks.{ones, overlaid}
 use Rattle.rules.specs.Backward.{traceChecks, BackwardTrace, backwardOf}
 use Rattle.rules.specs.Forward.{ForwardTrace, forwardOf}
-use Rattle.rules.specs.KeptLog.{declarationOf, eventOf, encodedBelow, logBytes, logLength, logChecks, keptLogOf}
+use Rattle.rules.specs.KeptLog.{declarationRecord, eventRecord, encodedBelow, logBytes, logChecks, keptLog, keptLogOf}
 use Rattle.closure.proofs.Traces.{passed-entity}
 use Rattle.kept_log.proofs.Same.{encodedBelow-same}
 use Rattle.agreement.specs.RoundTrip.{SameTrail, SameCalls}
 
 -- what is read of a call that goes on or stops
-unless-same : {A B : Type 0} (f : A → B) (x : Checked) (stop on on′ : A) → (x ≡ Passed → f on ≡ f on′) → f (unless x stop on) ≡ f (unless x stop on′)
+unless-same : {A B : Type 0} (f : A → B) (x : Checked) (stop on on′ : A) → (x ≡ Passed → f on ≡ f on′) → f (ifRefused x stop on) ≡ f (ifRefused x stop on′)
 unless-same f Passed stop on on′ h = h refl
 unless-same f (Refused r) stop on on′ h = refl
 
@@ -77,25 +77,22 @@ module _ (c : Counts) (t : Tables) (d : Counts) (u : Tables) (s : SameTrail (tra
 
   -- The kept log
 
-  declaration-same : (x : ℕ) → x < c .entities → declarationOf (trailOf d u) x ≡ declarationOf (trailOf c t) x
+  declaration-same : (x : ℕ) → x < c .entities → declarationRecord (trailOf d u) x ≡ declarationRecord (trailOf c t) x
   declaration-same x l = λ j. records.Declaration (record { sort = s .sorts x l j; entity = entityNo x })
 
   logBytes-same : logBytes (trailOf d u) ≡ logBytes (trailOf c t)
   unfolding logBytes
   logBytes-same =
-      let a = ap (encodedBelow (declarationOf (trailOf d u))) (s .entities) ∙ encodedBelow-same _ _ (c .entities) declaration-same in
-      let b = ap (encodedBelow (eventOf (trailOf d u))) (s .edges) ∙ encodedBelow-same _ _ (c .edges) (s .events) in
+      let a = ap (encodedBelow (declarationRecord (trailOf d u))) (s .entities) ∙ encodedBelow-same _ _ (c .entities) declaration-same in
+      let b = ap (encodedBelow (eventRecord (trailOf d u))) (s .edges) ∙ encodedBelow-same _ _ (c .edges) (s .events) in
       λ j. headerBytes ++ (a j ++ b j)
-
-  length-same : logLength d ≡ logLength c
-  length-same = λ j. headerLength + recordLength * (s .entities j + s .edges j)
 
   log-same : (out : List ℕ) → keptLogOf d u out ≡ keptLogOf c t out
   unfolding keptLogOf logChecks
   log-same out = λ j.
-      let x = firstOf (check (not (sound-same j)) Unsound ∷ check (ltb (length out) (length-same j)) OutputShort ∷ []) in
-      unless x (record { answer = record { refusal = numberOf x; length = 0 }; out = out })
-      (record { answer = record { refusal = 0; length = length-same j }; out = overlaid (logBytes-same j) out })
+      let x = firstOf (check (not (sound-same j)) Unsound ∷ check (ltb (length out) (length (logBytes-same j))) OutputShort ∷ []) in
+      ifRefused x (keptLog (record { refusal = numberOf x; length = 0 }) out)
+      (keptLog (record { refusal = 0; length = length (logBytes-same j) }) (overlaid (logBytes-same j) out))
 
   pub same-calls : SameCalls c t d u
   same-calls = record {

@@ -18,7 +18,7 @@ use Rattle.rules.specs.Marks.{ones}
 use Rattle.rules.specs.Backward.{BackwardTrace, backwardOf}
 use Rattle.rules.specs.Forward.{ForwardTrace, forwardOf}
 use Rattle.closure.specs.Arcs.{Marked}
-use Rattle.causality.specs.Statements.{eventOf, IsKept}
+use Rattle.causality.specs.Statements.{itemEvent, IsKept}
 use Rattle.rules.specs.Calls.{Call, heldAfter, Lent, AllLent, plainAfter}
 
 -- "In such a list a trace is refused only with 5 or 14."
@@ -45,7 +45,7 @@ pub record ForwardAgrees (rs : List Record) (u t : ℕ) (f : ForwardTrace) : Typ
 
 -- every event by which an entity gained an ancestor is a kept intake of it
 abbrev pub GainsAreKept : List Item → Type 0
-GainsAreKept hs = (later : List Item) (h : Item) (earlier : List Item) → hs ≡ later ++ (h ∷ earlier) → Gains (accepted earlier) (eventOf h) → IsKept h
+GainsAreKept hs = (later : List Item) (h : Item) (earlier : List Item) → hs ≡ later ++ (h ∷ earlier) → Gains (accepted earlier) (itemEvent h) → IsKept h
 
 -- what holds after the calls, for a trace lent what they leave, in tables of any length, with any entity, time and buffers
 pub record Agrees (cs : List Call) : Type 0 where

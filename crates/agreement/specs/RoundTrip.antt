@@ -10,7 +10,7 @@ use Rattle.rules.specs.Trail.{Tables, Capacity, capacityOf, Trail, trailOf, fre
 use Rattle.rules.specs.Batch.{Batched, batchOf}
 use Rattle.rules.specs.Backward.{backwardEntities, backwardOf}
 use Rattle.rules.specs.Forward.{forwardEntities, forwardIntake, forwardOf}
-use Rattle.rules.specs.KeptLog.{eventOf, KeptLog, keptLogOf}
+use Rattle.rules.specs.KeptLog.{eventRecord, KeptLog, keptLogOf}
 use Rattle.rules.specs.Calls.{Call, batch, backward, forward, heldAfter, Lent, AllLent}
 
 -- the files of the batches are of bytes
@@ -21,7 +21,7 @@ AllBytes (backward t v time work marks ∷ cs) = AllBytes cs
 AllBytes (forward t u time work marks ∷ cs) = AllBytes cs
 
 -- with as many rows as are in use
-pub record Room (cap : Capacity) (c : Counts) : Type 0 where
+pub record EnoughRows (cap : Capacity) (c : Counts) : Type 0 where
   pub entities : c .entities ≤ cap .entities
   pub versions : c .versions ≤ cap .versions
   pub edges : c .edges ≤ cap .edges
@@ -31,7 +31,7 @@ pub record SameTrail (T U : Trail) : Type 0 where
   pub entities : U .counts .entities ≡ T .counts .entities
   pub sorts : (x : ℕ) → x < T .counts .entities → U .entity x .sort ≡ T .entity x .sort
   pub edges : U .counts .edges ≡ T .counts .edges
-  pub events : (k : ℕ) → k < T .counts .edges → eventOf U k ≡ eventOf T k
+  pub events : (k : ℕ) → k < T .counts .edges → eventRecord U k ≡ eventRecord T k
   pub versions : U .counts .versions ≡ T .counts .versions
   pub backward : (v time : ℕ) → v < T .counts .entities → backwardEntities U v time ≡ backwardEntities T v time
   pub forward : (u time : ℕ) → u < T .counts .entities → forwardEntities U u time ≡ forwardEntities T u time
@@ -61,5 +61,5 @@ abbrev pub RoundTrip : Type 0
 RoundTrip =
     (cs : List Call) → AllLent cs → AllBytes cs → (t : Tables) → Lent (heldAfter cs) t → (out : List ℕ)
     → keptLogOf (heldAfter cs .counts) t out .answer .refusal ≡ 0
-    → (lent : Tables) → Room (capacityOf lent) (heldAfter cs .counts)
+    → (lent : Tables) → EnoughRows (capacityOf lent) (heldAfter cs .counts)
     → TakenAgain (heldAfter cs .counts) t (batchOf freshCounts lent (writtenLog (keptLogOf (heldAfter cs .counts) t out)))

@@ -8,7 +8,7 @@ use mathlib.Core.List.{List}
 use Rattle.rules.specs.Trail.{Trail, latestOf, ownerOf}
 use Rattle.rules.specs.History.{Item, accepted}
 use Rattle.rules.specs.Backward.{BackwardMarks, start, intoStart, intoOther, previous}
-use Rattle.causality.specs.Working.{ne, nv, previousOf, Marked, lastOf, Grown}
+use Rattle.causality.specs.Working.{ne, nv, previousOf, EntityMarked, lastOf, Grown}
 use Rattle.causality.specs.Order.{upTo}
 use Rattle.causality.proofs.Declared.{OldEntity, Declared}
 use Rattle.causality.proofs.Invariant.{Inv, inv-declared}
@@ -23,7 +23,7 @@ use Rattle.causality.proofs.Ancestors.{ancestors}
 
 -- entity x has a version marked backward from s at t
 abbrev Behind : Trail → ℕ → ℕ → ℕ → Type 0
-Behind T s t x = Marked T (BackwardMarks T s t) x
+Behind T s t x = EntityMarked T (BackwardMarks T s t) x
 
 -- with no event after t
 backward-now : {T : Trail} {hs : List Item} → Grown T hs → (t x y s : ℕ) → lastOf hs ≤ t → y < ne T → StartsAt T y t s → Behind T s t x ↔ Reach (accepted hs) x y

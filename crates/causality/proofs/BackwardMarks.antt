@@ -9,7 +9,7 @@ use Rattle.record.specs.declared.Event.{Event}
 use Rattle.rules.specs.Trail.{Trail, none}
 use Rattle.rules.specs.Forward.{ForwardMarks}
 use Rattle.rules.specs.Backward.{BackwardMarks, start, intoStart, intoOther, previous}
-use Rattle.causality.specs.Working.{nv, nd, EdgeIn, PrevIn, Marked}
+use Rattle.causality.specs.Working.{nv, nd, EdgeIn, PrevIn, EntityMarked}
 use Rattle.causality.proofs.Entered.{NewEdge, NewPrev}
 use Rattle.causality.proofs.Invariant.{Inv, prev-in}
 use Rattle.causality.proofs.Kept.{Kept, w-top, w-unused}
@@ -104,13 +104,13 @@ module _ {T T′ : Trail} {last : ℕ} {e : Event} {w : ℕ} (k : Kept T T′ la
       let y = bwd-kept d in
       by-prev _ b (record { inside = omega (arith, bwd-in (k .was) m y, k .now .nv-le); some = n; is = sym q }) y
 
-  pub behind-kept : {x : ℕ} → Marked T′ (BackwardMarks T′ s t) x ↔ Marked T (BackwardMarks T s t) x
+  pub behind-kept : {x : ℕ} → EntityMarked T′ (BackwardMarks T′ s t) x ↔ EntityMarked T (BackwardMarks T s t) x
   behind-kept {x} = (to, from)
     where
-      to : Marked T′ (BackwardMarks T′ s t) x → Marked T (BackwardMarks T s t) x
+      to : EntityMarked T′ (BackwardMarks T′ s t) x → EntityMarked T (BackwardMarks T s t) x
       to b = let z = bwd-kept (b .marked) in record { version = b .version; marked = z; owner = sym (k .now .owner-old _ (bwd-in (k .was) m z)) ∙ b .owner }
 
-      from : Marked T (BackwardMarks T s t) x → Marked T′ (BackwardMarks T′ s t) x
+      from : EntityMarked T (BackwardMarks T s t) x → EntityMarked T′ (BackwardMarks T′ s t) x
       from b =
           record {
             version = b .version;

@@ -5,7 +5,7 @@ use mathlib.Core.Path.{_≡_, sym, _∙_}
 use mathlib.Core.Logic.{_⊎_, inl, inr}
 use Rattle.record.specs.declared.Event.{Event}
 use Rattle.rules.specs.Trail.{Trail, latestOf, ownerOf}
-use Rattle.causality.specs.Working.{nv, nd, startTime, EdgeIn, PrevIn, Wide, New, Enters}
+use Rattle.causality.specs.Working.{nv, nd, startTime, EdgeIn, PrevIn, Wide, New, AddsEdge}
 use Rattle.causality.proofs.Declared.{below, edge-stands, edge-stood, prev-stands, prev-stood}
 
 abbrev pub NewVersion : Trail → ℕ → ℕ → Type 0
@@ -18,7 +18,7 @@ abbrev pub NewPrev : Trail → Event → ℕ → ℕ → ℕ → Type 0
 NewPrev T e w a b = PrevIn T a b ⊎ ((a ≡ latestOf T (e .target .0)) × (b ≡ w) × (w ≡ nv T))
 
 pub record Entered (T T′ : Trail) (e : Event) (w : ℕ) : Type 0 where
-  pub row : Enters T T′ e w
+  pub row : AddsEdge T T′ e w
   pub nv-le : nv T ≤ nv T′
   pub w-in : w < nv T′
   pub owner-w : ownerOf T′ w ≡ e .target .0
@@ -36,7 +36,7 @@ nv-grows (inl s) = omega (arith, s .nv-is)
 nv-grows (inr s) = omega (arith, s .nv-is)
 
 -- the target's latest version was in use, and its own
-module _ {T T′ : Trail} {e : Event} {w : ℕ} (r : Enters T T′ e w) (lt : latestOf T (e .target .0) < nv T) (is : ownerOf T (latestOf T (e .target .0)) ≡ e .target .0) where
+module _ {T T′ : Trail} {e : Event} {w : ℕ} (r : AddsEdge T T′ e w) (lt : latestOf T (e .target .0) < nv T) (is : ownerOf T (latestOf T (e .target .0)) ≡ e .target .0) where
   edge-last : {a b t : ℕ} → (h : EdgeIn T′ a b t) → (h .number < nd T) ⊎ (h .number ≡ nd T) → NewEdge T e w a b t
   edge-last h (inl l) = inl (edge-stood (r .old) h l)
   edge-last h (inr q) = inr (sym (h .from) ∙ rw q (r .from-new), sym (h .to) ∙ rw q (r .to-new), sym (h .time) ∙ rw q (r .time-new))

@@ -6,7 +6,7 @@ use mathlib.Core.Path.{_≡_, sym, _∙_, ap}
 use mathlib.Core.Logic.{_⊎_, inl, inr}
 use Rattle.record.specs.declared.Event.{Event}
 use Rattle.rules.specs.Trail.{Trail, latestOf, ownerOf}
-use Rattle.causality.specs.Working.{ne, nv, EdgeIn, PrevIn, Fit, Wide, New, Enters}
+use Rattle.causality.specs.Working.{ne, nv, EdgeIn, PrevIn, Fit, Wide, New, AddsEdge}
 use Rattle.causality.proofs.Entered.{NewEdge, NewPrev, Entered, entered-facts}
 use Rattle.causality.proofs.Invariant.{Inv, prev-in}
 
@@ -15,7 +15,7 @@ pub record Kept (T T′ : Trail) (last : ℕ) (e : Event) (w : ℕ) : Type 0 whe
   pub was : Inv T last
   pub now : Entered T T′ e w
 
-pub kept-facts : {T T′ : Trail} {last : ℕ} {e : Event} {w : ℕ} → Inv T last → Fit T last e → Enters T T′ e w → Kept T T′ last e w
+pub kept-facts : {T T′ : Trail} {last : ℕ} {e : Event} {w : ℕ} → Inv T last → Fit T last e → AddsEdge T T′ e w → Kept T T′ last e w
 kept-facts i f r =
     record { fit = f; was = i; now = entered-facts r (i .latest-in _ (f .target-in)) (i .latest-owner _ (f .target-in)) }
 

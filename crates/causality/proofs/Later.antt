@@ -6,7 +6,7 @@ use mathlib.Core.Logic.{_⊎_, inl, inr}
 use mathlib.Core.Bool.{Bool, true, false, cond}
 use mathlib.Core.List.{List, [], _∷_, _++_}
 use lib.Dec.{leb}
-use borrow.Author.Tests.{leb-true, le-leb}
+use borrow.Author.Tests.{le-leb}
 use Rattle.record.specs.declared.Event.{Event}
 use Rattle.rules.specs.History.{Item, kept, dropped, accepted}
 use Rattle.causality.specs.Working.{lastOf}
@@ -35,17 +35,9 @@ upTo-same t more hs o (inl l) = upTo-more t more hs o l
 upTo-same t more hs o (inr q) = rw q
 
 -- the events later than t
-pub above-out : (t : ℕ) (e : Event) (es : List Event) → e .time ≤ t → above t (e ∷ es) ≡ above t es
+above-out : (t : ℕ) (e : Event) (es : List Event) → e .time ≤ t → above t (e ∷ es) ≡ above t es
 unfolding above
 above-out t e es l = rw (le-leb (e .time) t l)
-
-pub above-in : (t : ℕ) (e : Event) (es : List Event) → t < e .time → above t (e ∷ es) ≡ e ∷ above t es
-unfolding above
-above-in t e es l = go (leb (e .time) t) refl
-  where
-    go : (b : Bool) → leb (e .time) t ≡ b → cond b (above t es) (e ∷ above t es) ≡ e ∷ above t es
-    go true q = absurd (omega (arith, leb-true (e .time) t q))
-    go false q = refl
 
 above-none : (t : ℕ) (es : List Event) → All (λ e. e .time ≤ t) es → above t es ≡ []
 above-none t [] a = unfold above in refl
@@ -57,11 +49,6 @@ above-next t e {c} {es} s = go (leb (e .time) t)
     go : (b : Bool) → Part (cond b c (e ∷ c)) (e ∷ es)
     go true = skip s
     go false = take s
-
-pub above-part : (t : ℕ) (es : List Event) → Part (above t es) es
-unfolding above
-above-part t [] = done
-above-part t (e ∷ es) = above-next t e (above-part t es)
 
 -- they are all after the latest kept intake by t
 pub above-since : (u t : ℕ) (hs : List Item) → Ordered (accepted hs) → Part (above t (accepted hs)) (since u t hs)

@@ -22,5 +22,6 @@ pub mod IntakeTime
 pub mod Intake
 pub mod Strict
 pub mod PathsBy
+pub mod AtOrLater
 pub mod Theorem
 pub mod Same

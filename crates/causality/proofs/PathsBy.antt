@@ -1,15 +1,14 @@
--- Causal paths in by t are those through events with time ≤ t; those after t go through the later ones.
-use Prim.Native.Nat.{ℕ, _≤_, _<_}
+-- Causal paths in by t are those through events with time ≤ t.
+use Prim.Native.Nat.{ℕ, _≤_}
 use native.Mathlib.Omega.{arith}
 use native.Mathlib.Decide.{decLe}
 use mathlib.Core.Path.{_≡_, subst}
 use mathlib.Core.Logic.{_⊎_, inl, inr, _↔_}
 use mathlib.Core.List.{List, [], _∷_, List·Memᴰ, List·Memᴰ·head, List·Memᴰ·tail, List·Memᴰ·cases-cons, List·Memᴰ·not-nil}
 use Rattle.record.specs.declared.Event.{Event}
-use Rattle.rules.specs.Paths.{AllIn, CausalPath, InBy, PathBy, After, PathAfter}
-use Rattle.causality.specs.Order.{upTo, above}
+use Rattle.rules.specs.Paths.{AllIn, CausalPath, InBy, PathBy}
+use Rattle.causality.specs.Order.{upTo}
 use Rattle.causality.proofs.Parts.{upTo-in, upTo-out}
-use Rattle.causality.proofs.Later.{above-in, above-out}
 
 upTo-mem : (t : ℕ) (es : List Event) (e : Event) → List·Memᴰ e (upTo t es) → List·Memᴰ e es × (e .time ≤ t)
 upTo-mem t [] e m = let k : List·Memᴰ e [] = unfold upTo in m in absurd (List·Memᴰ·not-nil k)
@@ -55,22 +54,3 @@ causal-by t es x y = (to, from)
     from b =
         let p = b .causal in
         record { path = p .path; links = p .links; rising = p .rising; members = in-by t es (p .path) .1 (p .members, b .by) }
-
-mem-above : (t : ℕ) (es : List Event) (e : Event) → List·Memᴰ e es → t < e .time → List·Memᴰ e (above t es)
-mem-above t [] e m l = absurd (List·Memᴰ·not-nil m)
-mem-above t (d ∷ es) e m l = go (decLe (d .time) t) (List·Memᴰ·cases-cons m) (λ k. mem-above t es e k l)
-  where
-    go : Dec (d .time ≤ t) → (e ≡ d) ⊎ List·Memᴰ e es → (List·Memᴰ e es → List·Memᴰ e (above t es)) → List·Memᴰ e (above t (d ∷ es))
-    go (yes k) (inl q) ih = let z : t < d .time = rw q at l in absurd (omega arith)
-    go (yes k) (inr m) ih = rw (above-out t d es k) (ih m)
-    go (no k) (inl q) ih = rw (above-in t d es (omega arith)) (List·Memᴰ·head q)
-    go (no k) (inr m) ih = rw (above-in t d es (omega arith)) (List·Memᴰ·tail (ih m))
-
-in-after : (t : ℕ) (es c : List Event) → AllIn es c → After t c → AllIn (above t es) c
-in-after t es [] a b = tt
-in-after t es (e ∷ c) a b = (mem-above t es e (a .0) (b .0), in-after t es c (a .1) (b .1))
-
-pub causal-after : (t : ℕ) (es : List Event) (x y : ℕ) → PathAfter es t x y → CausalPath (above t es) x y
-causal-after t es x y b =
-    let p = b .causal in
-    record { path = p .path; links = p .links; rising = p .rising; members = in-after t es (p .path) (p .members) (b .after) }

@@ -7,7 +7,7 @@ use mathlib.Core.List.{List}
 use Rattle.record.specs.declared.Event.{Event}
 use Rattle.rules.specs.Trail.{Trail}
 use Rattle.rules.specs.History.{Item}
-use Rattle.causality.specs.Working.{ne, nv, nd, Leads, Keeps, Same, Declares, Wide, New, Enters, Fit, Grown, begun, declared, repeated, entered}
+use Rattle.causality.specs.Working.{ne, nv, nd, Leads, Keeps, Same, Declares, Wide, New, AddsEdge, Fit, Grown, begun, declared, repeated, entered}
 use Rattle.causality.proofs.Declared.{edge-stands, prev-stands}
 use Rattle.causality.proofs.Entered.{nv-grows}
 use Rattle.causality.proofs.Growth.{inv}
@@ -39,7 +39,7 @@ declares-same d s =
       old = keeps-trans (omega (arith, d .nv-is)) (omega (arith, d .nd-is)) (d .old) (s .old);
     }
 
-module _ {T U R : Trail} {e : Event} {w : ℕ} (target-in : e .target .0 < ne T) (r : Enters T U e w) (s : Same U R) where
+module _ {T U R : Trail} {e : Event} {w : ℕ} (target-in : e .target .0 < ne T) (r : AddsEdge T U e w) (s : Same U R) where
   shape-same : Wide T U e w ⊎ New T U e w → Wide T R e w ⊎ New T R e w
   shape-same (inl c) = inl (record { is = c .is; nv-is = s .nv-is ∙ c .nv-is; unused = c .unused })
   shape-same (inr c) =
@@ -53,7 +53,7 @@ module _ {T U R : Trail} {e : Event} {w : ℕ} (target-in : e .target .0 < ne T)
         previous = s .old .previous-old w h ∙ c .previous;
       })
 
-  enters-same : Enters T R e w
+  enters-same : AddsEdge T R e w
   enters-same =
       record {
         ne-is = s .ne-is ∙ r .ne-is;

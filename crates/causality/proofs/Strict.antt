@@ -27,7 +27,7 @@ part-in done = tt
 part-in (skip {e = e} {c = c} {es = es} s) = in-more e es c (part-in s)
 part-in (take {e = e} {c = c} {es = es} s) = (List·Memᴰ·head refl, in-more e es c (part-in s))
 
-all-mem : (p : Event → Type 0) (es : List Event) → All p es → {e : Event} → List·Memᴰ e es → p e
+pub all-mem : (p : Event → Type 0) (es : List Event) → All p es → {e : Event} → List·Memᴰ e es → p e
 all-mem p [] a m = absurd (List·Memᴰ·not-nil m)
 all-mem p (f ∷ es) a {e} m = go (List·Memᴰ·cases-cons m) (λ k. all-mem p es (a .1) k)
   where

@@ -1,15 +1,17 @@
 -- The proof of what Statements claims.
-use Prim.Native.Nat.{ℕ}
+use Prim.Native.Nat.{ℕ, _<_}
 use mathlib.Core.Path.{_≡_, sym, subst}
 use mathlib.Core.Logic.{_⊎_, inl, inr, _↔_, Iff·trans, Iff·symm}
 use mathlib.Core.List.{List, _∷_, _++_}
 use Rattle.rules.specs.Trail.{Trail}
 use Rattle.rules.specs.Paths.{CausalPath, Gains}
 use Rattle.rules.specs.History.{Item, kept, dropped, accepted, NoIntake, LatestIntake, Reached, fromIntake, fromZero}
+use Rattle.rules.specs.Start.{StartVersion}
 use Rattle.rules.specs.Backward.{BackwardMarks}
-use Rattle.causality.specs.Working.{Marked, Grown}
+use Rattle.rules.specs.Forward.{ForwardMarks}
+use Rattle.causality.specs.Working.{ne, EntityMarked, Grown}
 use Rattle.causality.specs.Order.{OrderPath, upTo, above, since, Falling}
-use Rattle.causality.specs.Statements.{eventOf, IsKept, Faithful, Stable, Document01, Claims}
+use Rattle.causality.specs.Statements.{itemEvent, IsKept, Faithful, Stable, Document01, Claims}
 use Rattle.causality.proofs.Reach.{reach-path, reach-part}
 use Rattle.causality.proofs.Parts.{upTo-part, since-part, since-none, since-intake, latest-intake}
 use Rattle.causality.proofs.Accepted.{grown-ordered}
@@ -17,20 +19,21 @@ use Rattle.causality.proofs.Start.{start-some, start-one, version-walk}
 use Rattle.causality.proofs.Forward.{forward-reach}
 use Rattle.causality.proofs.Ancestors.{NoGain, dropped-gains-none}
 use Rattle.causality.proofs.Backward.{backward-reach}
-use Rattle.causality.proofs.Later.{upTo-same, above-part, above-since}
+use Rattle.causality.proofs.Later.{upTo-same, above-since}
 use Rattle.causality.proofs.Log.{edge-count, logged, versions-le}
 use Rattle.causality.proofs.Intake.{intake-is-latest}
 use Rattle.causality.proofs.Strict.{falling-part, order-causal, earlier-falling}
-use Rattle.causality.proofs.PathsBy.{causal-by, causal-after}
+use Rattle.causality.proofs.PathsBy.{causal-by}
+use Rattle.causality.proofs.AtOrLater.{from-since}
 
 -- any working
 
 gain : {T : Trail} {hs : List Item} → Grown T hs → (later : List Item) (h : Item) (earlier : List Item) → hs ≡ later ++ (h ∷ earlier) → (x : ℕ)
-    → (OrderPath (accepted earlier) x (eventOf h .target .0) → ⊥) → OrderPath (accepted (h ∷ earlier)) x (eventOf h .target .0) → IsKept h
+    → (OrderPath (accepted earlier) x (itemEvent h .target .0) → ⊥) → OrderPath (accepted (h ∷ earlier)) x (itemEvent h .target .0) → IsKept h
 gain g later h earlier q x = go h (dropped-gains-none g later h earlier q)
   where
-    go : (h : Item) → NoGain h earlier → (OrderPath (accepted earlier) x (eventOf h .target .0) → ⊥)
-        → OrderPath (accepted (h ∷ earlier)) x (eventOf h .target .0) → IsKept h
+    go : (h : Item) → NoGain h earlier → (OrderPath (accepted earlier) x (itemEvent h .target .0) → ⊥)
+        → OrderPath (accepted (h ∷ earlier)) x (itemEvent h .target .0) → IsKept h
     go (kept e) z n p = tt
     go (dropped e) z n p = n (reach-path (accepted earlier) x (e .target .0) .0 (z x (e .target .0) (reach-path (e ∷ accepted earlier) x (e .target .0) .1 p)))
 
@@ -56,7 +59,7 @@ faithful {T} {hs} g =
 
 stable : {T T′ : Trail} (hs more : List Item) → Grown T hs → Grown T′ (more ++ hs) → Stable T hs T′ more
 stable {T} {T′} hs more g g′ v t s r x h h′ p p′ l =
-    let o = subst (λ es. Marked T′ (BackwardMarks T′ r t) x ↔ OrderPath es x v) (upTo-same t more hs (grown-ordered g′) l) (faithful g′ .backward v t r x h′ p′) in
+    let o = subst (λ es. EntityMarked T′ (BackwardMarks T′ r t) x ↔ OrderPath es x v) (upTo-same t more hs (grown-ordered g′) l) (faithful g′ .backward v t r x h′ p′) in
     Iff·trans o (Iff·symm (faithful g .backward v t s x h p))
 
 -- document 01, where times rise strictly
@@ -73,12 +76,12 @@ reached u t hs y = (to (latest-intake u t hs), from)
     from (fromZero n p) = subst (λ es. CausalPath es u y) (sym (since-none u t hs n)) p
 
 causal-gain : {T : Trail} {hs : List Item} → Grown T hs → Falling (accepted hs) → (later : List Item) (h : Item) (earlier : List Item)
-    → hs ≡ later ++ (h ∷ earlier) → Gains (accepted earlier) (eventOf h) → IsKept h
+    → hs ≡ later ++ (h ∷ earlier) → Gains (accepted earlier) (itemEvent h) → IsKept h
 causal-gain {hs = hs} g f later h earlier q a = go h (earlier-falling later h earlier hs q f) (gain g later h earlier q) a
   where
     go : (h : Item) → Falling (accepted (h ∷ earlier)) × Falling (accepted earlier)
-        → ((x : ℕ) → (OrderPath (accepted earlier) x (eventOf h .target .0) → ⊥) → OrderPath (accepted (h ∷ earlier)) x (eventOf h .target .0) → IsKept h)
-        → Gains (accepted earlier) (eventOf h) → IsKept h
+        → ((x : ℕ) → (OrderPath (accepted earlier) x (itemEvent h .target .0) → ⊥) → OrderPath (accepted (h ∷ earlier)) x (itemEvent h .target .0) → IsKept h)
+        → Gains (accepted earlier) (itemEvent h) → IsKept h
     go (kept e) o k a = tt
     go (dropped e) o k a =
         k (a .ancestor)
@@ -91,14 +94,16 @@ document {T} {hs} g f =
       backward = λ v t s x h r.
           Iff·trans (faithful g .backward v t s x h r)
           (Iff·trans (order-causal (upTo t (accepted hs)) (falling-part (upTo-part t (accepted hs)) f) x v) (causal-by t (accepted hs) x v));
-      forward = λ u t s y h r.
-          Iff·trans (faithful g .forward u t s y h r)
-          (Iff·trans (order-causal (since u t hs) (falling-part (since-part u t hs) f) u y) (reached u t hs y));
+      forward = forward;
       intake = faithful g .intake;
-      never-less = λ u t s y h r p.
-          faithful g .never-less u t s y h r (order-causal (above t (accepted hs)) (falling-part (above-part t (accepted hs)) f) u y .1 (causal-after t (accepted hs) u y p));
+      never-less = λ u t s y h r p. forward u t s y h r .1 (reached u t hs y .0 (from-since g f u t y (p .causal) (p .from)));
       gain = causal-gain g f;
     }
+  where
+    forward : (u t s y : ℕ) → u < ne T → StartVersion T u t s → EntityMarked T (ForwardMarks T s) y ↔ Reached u t hs y
+    forward u t s y h r =
+        Iff·trans (faithful g .forward u t s y h r)
+        (Iff·trans (order-causal (since u t hs) (falling-part (since-part u t hs) f) u y) (reached u t hs y))
 
 pub claims : Claims
 claims = record { any-working = faithful; stable = stable; document01 = document }

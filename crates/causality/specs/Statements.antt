@@ -7,17 +7,17 @@ use lib.ListN.{length}
 use Rattle.record.specs.declared.Event.{Event}
 use Rattle.record.specs.Layout.{kindNo}
 use Rattle.rules.specs.Trail.{Trail, ownerOf}
-use Rattle.rules.specs.Paths.{PathBy, PathAfter, Gains}
+use Rattle.rules.specs.Paths.{PathBy, PathFrom, Gains}
 use Rattle.rules.specs.History.{Item, kept, dropped, accepted, keptEvents, NoIntake, LatestIntake, Reached, IntakeTime}
 use Rattle.rules.specs.Start.{StartVersion, intakeOf}
 use Rattle.rules.specs.Backward.{BackwardMarks}
 use Rattle.rules.specs.Forward.{ForwardMarks}
-use Rattle.causality.specs.Working.{ne, nv, nd, Marked, lastOf, Grown}
+use Rattle.causality.specs.Working.{ne, nv, nd, EntityMarked, lastOf, Grown}
 use Rattle.causality.specs.Order.{OrderPath, upTo, above, since, Falling}
 
-abbrev pub eventOf : Item → Event
-eventOf (kept e) = e
-eventOf (dropped e) = e
+abbrev pub itemEvent : Item → Event
+itemEvent (kept e) = e
+itemEvent (dropped e) = e
 
 abbrev pub IsKept : Item → Type 0
 IsKept (kept e) = Unit {0}
@@ -41,9 +41,9 @@ pub record Faithful (T : Trail) (hs : List Item) : Type 0 where
   pub start : (x t : ℕ) → x < ne T → (s : ℕ) × StartVersion T x t s
   pub start-one : (x t s r : ℕ) → StartVersion T x t s → StartVersion T x t r → s ≡ r
   -- backward from v at t: the causal paths to v in by t
-  pub backward : (v t s x : ℕ) → v < ne T → StartVersion T v t s → Marked T (BackwardMarks T s t) x ↔ OrderPath (upTo t (accepted hs)) x v
+  pub backward : (v t s x : ℕ) → v < ne T → StartVersion T v t s → EntityMarked T (BackwardMarks T s t) x ↔ OrderPath (upTo t (accepted hs)) x v
   -- forward from u at t: the causal paths from u through events accepted after its latest kept intake at or before t
-  pub forward : (u t s y : ℕ) → u < ne T → StartVersion T u t s → Marked T (ForwardMarks T s) y ↔ OrderPath (since u t hs) u y
+  pub forward : (u t s y : ℕ) → u < ne T → StartVersion T u t s → EntityMarked T (ForwardMarks T s) y ↔ OrderPath (since u t hs) u y
   -- those events, by that intake; there is one or none
   pub since-intake : (u t : ℕ) (l : LatestIntake u t hs) → since u t hs ≡ accepted (l .later)
   pub since-none : (u t : ℕ) → NoIntake u t hs → since u t hs ≡ accepted hs
@@ -51,10 +51,10 @@ pub record Faithful (T : Trail) (hs : List Item) : Type 0 where
   -- the intake that forward gives is its time, 0 if there is none
   pub intake : (u t s : ℕ) → u < ne T → StartVersion T u t s → IntakeTime u t hs (intakeOf T s t)
   -- "a forward answer may hold more than the full log's answer at t, never less"
-  pub never-less : (u t s y : ℕ) → u < ne T → StartVersion T u t s → OrderPath (above t (accepted hs)) u y → Marked T (ForwardMarks T s) y
+  pub never-less : (u t s y : ℕ) → u < ne T → StartVersion T u t s → OrderPath (above t (accepted hs)) u y → EntityMarked T (ForwardMarks T s) y
   -- an event by which its target gains an ancestor is kept
   pub gain : (later : List Item) (h : Item) (earlier : List Item) → hs ≡ later ++ (h ∷ earlier) → (x : ℕ)
-      → (OrderPath (accepted earlier) x (eventOf h .target .0) → ⊥) → OrderPath (accepted (h ∷ earlier)) x (eventOf h .target .0) → IsKept h
+      → (OrderPath (accepted earlier) x (itemEvent h .target .0) → ⊥) → OrderPath (accepted (h ∷ earlier)) x (itemEvent h .target .0) → IsKept h
   -- the edges are the kept events in order
   pub edges : nd T ≡ length (keptEvents hs)
   pub log : Logged T (keptEvents hs)
@@ -65,15 +65,15 @@ pub record Faithful (T : Trail) (hs : List Item) : Type 0 where
 abbrev pub Stable : Trail → List Item → Trail → List Item → Type 0
 Stable T hs T′ more =
     (v t s r x : ℕ) → v < ne T → v < ne T′ → StartVersion T v t s → StartVersion T′ v t r → (t < lastOf hs) ⊎ (more ≡ [])
-    → Marked T′ (BackwardMarks T′ r t) x ↔ Marked T (BackwardMarks T s t) x
+    → EntityMarked T′ (BackwardMarks T′ r t) x ↔ EntityMarked T (BackwardMarks T s t) x
 
 -- Document 01's words, where times rise strictly
 pub record Document01 (T : Trail) (hs : List Item) : Type 0 where
-  pub backward : (v t s x : ℕ) → v < ne T → StartVersion T v t s → Marked T (BackwardMarks T s t) x ↔ PathBy (accepted hs) t x v
-  pub forward : (u t s y : ℕ) → u < ne T → StartVersion T u t s → Marked T (ForwardMarks T s) y ↔ Reached u t hs y
+  pub backward : (v t s x : ℕ) → v < ne T → StartVersion T v t s → EntityMarked T (BackwardMarks T s t) x ↔ PathBy (accepted hs) t x v
+  pub forward : (u t s y : ℕ) → u < ne T → StartVersion T u t s → EntityMarked T (ForwardMarks T s) y ↔ Reached u t hs y
   pub intake : (u t s : ℕ) → u < ne T → StartVersion T u t s → IntakeTime u t hs (intakeOf T s t)
-  pub never-less : (u t s y : ℕ) → u < ne T → StartVersion T u t s → PathAfter (accepted hs) t u y → Marked T (ForwardMarks T s) y
-  pub gain : (later : List Item) (h : Item) (earlier : List Item) → hs ≡ later ++ (h ∷ earlier) → Gains (accepted earlier) (eventOf h) → IsKept h
+  pub never-less : (u t s y : ℕ) → u < ne T → StartVersion T u t s → PathFrom (accepted hs) t u y → EntityMarked T (ForwardMarks T s) y
+  pub gain : (later : List Item) (h : Item) (earlier : List Item) → hs ≡ later ++ (h ∷ earlier) → Gains (accepted earlier) (itemEvent h) → IsKept h
 
 pub record Claims : Type 0 where
   pub any-working : {T : Trail} {hs : List Item} → Grown T hs → Faithful T hs

@@ -43,14 +43,14 @@ pub record PrevIn (T : Trail) (a b : ℕ) : Type 0 where
   pub is : previousOf T b ≡ a
 
 -- entity x has a version among those marked
-pub record Marked (T : Trail) (M : ℕ → Type 0) (x : ℕ) : Type 0 where
+pub record EntityMarked (T : Trail) (M : ℕ → Type 0) (x : ℕ) : Type 0 where
   pub version : ℕ
   pub marked : M version
   pub owner : ownerOf T version ≡ x
 
 -- a path of edges and version steps leads from version s to some version of entity v
 abbrev pub Leads : Trail → ℕ → ℕ → Type 0
-Leads T s v = Marked T (ForwardMarks T s) v
+Leads T s v = EntityMarked T (ForwardMarks T s) v
 
 -- no edge leaves version w
 abbrev pub Unused : Trail → ℕ → Type 0
@@ -103,7 +103,7 @@ pub record New (T T′ : Trail) (e : Event) (w : ℕ) : Type 0 where
   pub previous : previousOf T′ w ≡ latestOf T (e .target .0)
 
 -- T′ is T with an edge for e, which enters version w
-pub record Enters (T T′ : Trail) (e : Event) (w : ℕ) : Type 0 where
+pub record AddsEdge (T T′ : Trail) (e : Event) (w : ℕ) : Type 0 where
   pub ne-is : ne T′ ≡ ne T
   pub nd-is : nd T′ ≡ suc (nd T)
   pub latest-target : latestOf T′ (e .target .0) ≡ w
@@ -139,5 +139,5 @@ pub data Grown : Trail → List Item → Type 0 where
   begun : {T : Trail} → ne T ≡ 0 → nv T ≡ 0 → nd T ≡ 0 → Grown T []
   declared : {T T′ : Trail} {hs : List Item} → Grown T hs → Declares T T′ → Grown T′ hs
   repeated : {T : Trail} {hs : List Item} → Grown T hs → (e : Event) → Fit T (lastOf hs) e → MayDrop T e → Grown T (dropped e ∷ hs)
-  entered : {T T′ : Trail} {hs : List Item} → Grown T hs → (e : Event) → Fit T (lastOf hs) e → (w : ℕ) → Enters T T′ e w
+  entered : {T T′ : Trail} {hs : List Item} → Grown T hs → (e : Event) → Fit T (lastOf hs) e → (w : ℕ) → AddsEdge T T′ e w
       → Grown T′ (kept e ∷ hs)

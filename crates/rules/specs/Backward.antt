@@ -13,7 +13,7 @@ use Rattle.rows.specs.declared.EdgeRow.{EdgeRow}
 use Rattle.rules.specs.declared.BackwardAnswer.{BackwardAnswer}
 use Rattle.rules.specs.Trail.{Tables, capacityOf, Trail, trailOf, none}
 use Rattle.rules.specs.Sound.{isSound}
-use Rattle.rules.specs.Batch.{unless}
+use Rattle.rules.specs.Batch.{ifRefused}
 use Rattle.rules.specs.Start.{startOf}
 use Rattle.rules.specs.Marks.{Arc, arc, closed, marksBelow, ones, overlaid}
 
@@ -69,12 +69,13 @@ pub record BackwardTrace : Type 0 where
   pub work : List ℕ
   pub marks : List ℕ
 
+abbrev pub backwardTrace : BackwardAnswer → List ℕ → List ℕ → BackwardTrace
+backwardTrace a work marks = record { answer = a; work = work; marks = marks }
+
 unfoldable pub backwardOf : Counts → Tables → ℕ → ℕ → List ℕ → List ℕ → BackwardTrace
 backwardOf c t v time work marks =
-    unless (firstOf (traceChecks c t v work marks))
-    (record { answer = record { refusal = numberOf (firstOf (traceChecks c t v work marks)); count = 0 }; work = work; marks = marks })
-    (record {
-      answer = record { refusal = 0; count = ones (backwardEntities (trailOf c t) v time) };
-      work = overlaid (backwardWork (trailOf c t) v time) work;
-      marks = overlaid (backwardEntities (trailOf c t) v time) marks;
-    })
+    ifRefused (firstOf (traceChecks c t v work marks))
+    (backwardTrace (record { refusal = numberOf (firstOf (traceChecks c t v work marks)); count = 0 }) work marks)
+    (backwardTrace (record { refusal = 0; count = ones (backwardEntities (trailOf c t) v time) })
+    (overlaid (backwardWork (trailOf c t) v time) work)
+    (overlaid (backwardEntities (trailOf c t) v time) marks))

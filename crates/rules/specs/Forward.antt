@@ -10,7 +10,7 @@ use Rattle.rows.specs.declared.VersionRow.{VersionRow}
 use Rattle.rows.specs.declared.EdgeRow.{EdgeRow}
 use Rattle.rules.specs.declared.ForwardAnswer.{ForwardAnswer}
 use Rattle.rules.specs.Trail.{Tables, Trail, trailOf, none}
-use Rattle.rules.specs.Batch.{unless}
+use Rattle.rules.specs.Batch.{ifRefused}
 use Rattle.rules.specs.Start.{startOf, intakeOf}
 use Rattle.rules.specs.Marks.{Arc, arc, closed, marksBelow, ones, overlaid}
 use Rattle.rules.specs.Backward.{traceChecks}
@@ -53,12 +53,13 @@ pub record ForwardTrace : Type 0 where
   pub work : List ℕ
   pub marks : List ℕ
 
+abbrev pub forwardTrace : ForwardAnswer → List ℕ → List ℕ → ForwardTrace
+forwardTrace a work marks = record { answer = a; work = work; marks = marks }
+
 unfoldable pub forwardOf : Counts → Tables → ℕ → ℕ → List ℕ → List ℕ → ForwardTrace
 forwardOf c t u time work marks =
-    unless (firstOf (traceChecks c t u work marks))
-    (record { answer = record { refusal = numberOf (firstOf (traceChecks c t u work marks)); count = 0; intake = 0 }; work = work; marks = marks })
-    (record {
-      answer = record { refusal = 0; count = ones (forwardEntities (trailOf c t) u time); intake = forwardIntake (trailOf c t) u time };
-      work = overlaid (forwardWork (trailOf c t) u time) work;
-      marks = overlaid (forwardEntities (trailOf c t) u time) marks;
-    })
+    ifRefused (firstOf (traceChecks c t u work marks))
+    (forwardTrace (record { refusal = numberOf (firstOf (traceChecks c t u work marks)); count = 0; intake = 0 }) work marks)
+    (forwardTrace (record { refusal = 0; count = ones (forwardEntities (trailOf c t) u time); intake = forwardIntake (trailOf c t) u time })
+    (overlaid (forwardWork (trailOf c t) u time) work)
+    (overlaid (forwardEntities (trailOf c t) u time) marks))

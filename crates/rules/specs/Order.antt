@@ -41,8 +41,8 @@ abbrev pub noVersion : Tables
 noVersion = tables (0 ∷ 0 ∷ []) [] []
 
 -- a file of one record, and of any bytes after the header, taken into a trail
-abbrev pub Gives : Counts → Tables → List ℕ → Refusal → ℕ → Type 0
-Gives c t bytes r n = batchOf c t (header ++ bytes) .answer ≡ answer (refusalNo r) n
+abbrev pub Refuses : Counts → Tables → List ℕ → Refusal → ℕ → Type 0
+Refuses c t bytes r n = batchOf c t (header ++ bytes) .answer ≡ answer (refusalNo r) n
 
 pub record OrderOfRefusals : Type 0 where
   -- "A batch checks 16, 1, 2, then per record 3, 4"
@@ -50,28 +50,28 @@ pub record OrderOfRefusals : Type 0 where
   pub r1-2 : batchOf freshCounts noRows (0x53 ∷ 0x4C ∷ 0x55 ∷ 2 ∷ 0 ∷ 0 ∷ 0 ∷ 0 ∷ []) .answer ≡ answer (refusalNo NotEventFile) 0
   pub r1-2-zeros : batchOf freshCounts noRows (0x53 ∷ 0x4C ∷ 0x54 ∷ 2 ∷ 0 ∷ 0 ∷ 0 ∷ 1 ∷ []) .answer ≡ answer (refusalNo NotEventFile) 0
   pub r2-3 : batchOf freshCounts noRows (0x53 ∷ 0x4C ∷ 0x54 ∷ 1 ∷ 1 ∷ 0 ∷ 0 ∷ 0 ∷ 7 ∷ []) .answer ≡ answer (refusalNo WrongVersion) 0
-  pub r3-4 : Gives freshCounts noRows (6 ∷ []) CutShort 0
-  pub r3-after : Gives freshCounts full (declare 0 1 ++ replicate 11 9) CutShort 1
-  pub r4-6 : Gives freshCounts noRows (declare 7 2) BadField 0
-  pub r4-5 : Gives (used 1) full (6 ∷ 0 ∷ 9 ∷ replicate 9 0) BadField 0
+  pub r3-4 : Refuses freshCounts noRows (6 ∷ []) CutShort 0
+  pub r3-after : Refuses freshCounts full (declare 0 1 ++ replicate 11 9) CutShort 1
+  pub r4-6 : Refuses freshCounts noRows (declare 7 2) BadField 0
+  pub r4-5 : Refuses (used 1) full (6 ∷ 0 ∷ 9 ∷ replicate 9 0) BadField 0
   -- "a declaration 6, 10, 11"
-  pub r6-10 : Gives freshCounts noRows (declare 1 0) NotNext 0
-  pub r10-11 : Gives freshCounts noRows (declare 0 0) EntitiesFull 0
-  pub r11 : Gives freshCounts noVersion (declare 0 0) VersionsFull 0
+  pub r6-10 : Refuses freshCounts noRows (declare 1 0) NotNext 0
+  pub r10-11 : Refuses freshCounts noRows (declare 0 0) EntitiesFull 0
+  pub r11 : Refuses freshCounts noVersion (declare 0 0) VersionsFull 0
   -- "an event 5, 7, 8, 9, 13, 12, 11"
-  pub r5-7 : Gives (used 1) full (event 1 9 9 9) Undeclared 0
-  pub r5-8 : Gives (used 1) full (event 1 1 9 9) Undeclared 0
-  pub r7-8 : Gives (used 1) full (event 1 1 1 9) SourceIsTarget 0
-  pub r8-9 : Gives (used 1) full (event 1 1 0 5) WrongSort 0
-  pub r8-target : Gives (used 1) full (event 4 1 0 5) WrongSort 0
-  pub r9-13 : Gives (used mostAccepted) full (event 2 1 0 5) NotLater 0
-  pub r13-12 : Gives (used mostAccepted) full (event 2 1 0 6) AcceptedFull 0
+  pub r5-7 : Refuses (used 1) full (event 1 9 9 9) Undeclared 0
+  pub r5-8 : Refuses (used 1) full (event 1 1 9 9) Undeclared 0
+  pub r7-8 : Refuses (used 1) full (event 1 1 1 9) SourceIsTarget 0
+  pub r8-9 : Refuses (used 1) full (event 1 1 0 5) WrongSort 0
+  pub r8-target : Refuses (used 1) full (event 4 1 0 5) WrongSort 0
+  pub r9-13 : Refuses (used mostAccepted) full (event 2 1 0 5) NotLater 0
+  pub r13-12 : Refuses (used mostAccepted) full (event 2 1 0 6) AcceptedFull 0
   -- a repeat, too
-  pub r13-repeat : Gives (used mostAccepted) full (event 1 0 1 6) AcceptedFull 0
-  pub r12-11 : Gives (used 1) full (event 2 1 0 6) EdgesFull 0
-  pub r11-event : Gives (used 1) (tables (full .entities) (full .versions) (full .edges ++ replicate 4 0)) (event 2 1 0 6) VersionsFull 0
+  pub r13-repeat : Refuses (used mostAccepted) full (event 1 0 1 6) AcceptedFull 0
+  pub r12-11 : Refuses (used 1) full (event 2 1 0 6) EdgesFull 0
+  pub r11-event : Refuses (used 1) (tables (full .entities) (full .versions) (full .edges ++ replicate 4 0)) (event 2 1 0 6) VersionsFull 0
   -- kind 5 is no repeat, and wants an edge row
-  pub r12-execve : Gives (used 1) full (event 5 0 1 6) EdgesFull 0
+  pub r12-execve : Refuses (used 1) full (event 5 0 1 6) EdgesFull 0
   -- "A trace checks 16, 5, 14."
   pub trace-16-5 : backwardOf (used 1) unsound 9 5 [] [] .answer ≡ record { refusal = refusalNo Unsound; count = 0 }
   pub trace-5-14 : backwardOf (used 1) full 2 5 [] [] .answer ≡ record { refusal = refusalNo Undeclared; count = 0 }

@@ -36,15 +36,15 @@ pub record PathBy (es : List Event) (t x y : ℕ) : Type 0 where
   pub causal : CausalPath es x y
   pub by : InBy t (causal .path)
 
--- no event of the path is at or before t
-abbrev pub After : ℕ → List Event → Type 0
-After t [] = Unit {0}
-After t (e ∷ p) = (t < e .time) × After t p
+-- no event of the path is before t
+abbrev pub From : ℕ → List Event → Type 0
+From t [] = Unit {0}
+From t (e ∷ p) = (t ≤ e .time) × From t p
 
--- "the full log's answer at t", forward: a causal path through events later than t
-pub record PathAfter (es : List Event) (t x y : ℕ) : Type 0 where
+-- "the full log's answer at t", forward: a causal path through events at t or later (the paper, Definition 2)
+pub record PathFrom (es : List Event) (t x y : ℕ) : Type 0 where
   pub causal : CausalPath es x y
-  pub after : After t (causal .path)
+  pub from : From t (causal .path)
 
 -- "An ancestor of an entity is another one with a causal path to it": x is one of y
 pub record Ancestor (es : List Event) (x y : ℕ) : Type 0 where

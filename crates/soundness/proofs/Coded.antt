@@ -10,7 +10,7 @@ use borrow.Author.Tests.{ltb-true, leb-true, eqb-false, not-true, lt-ltb, le-leb
 use Rattle.refusals.proofs.Checks.{not-true-of}
 use Rattle.record.specs.Layout.{mostKind}
 use Rattle.rules.specs.Trail.{Trail, ownerOf}
-use Rattle.rules.specs.Sound.{every, allBelow, follows, timeBefore, edgeTest}
+use Rattle.rules.specs.Sound.{every, allBelow, mayFollow, timeBefore, edgeTest}
 use Rattle.soundness.specs.Facts.{EntityFacts, VersionFacts, EdgeFacts}
 use Rattle.soundness.specs.Parts.{codeOf, Owners, sortsFit, soundCodes, codedEdge, codedTest}
 use Rattle.soundness.proofs.All.{every-at, all-at, done, _also_, hold-every}
@@ -72,7 +72,7 @@ module _ (T : Trail) (owners : List ℕ) (f : (x : ℕ) → x < T .counts .entit
     to = T .edge k .to .0
 
     coded-facts : codedTest (T .counts) owners (T .edge) k ≡ true → (EdgeFacts T k) × (timeBefore (T .edge) k < T .edge k .time)
-    unfolding codedTest codedEdge soundCodes sortsFit follows
+    unfolding codedTest codedEdge soundCodes sortsFit mayFollow
     coded-facts h =
         let q = every-at _ h in
         let l : from < T .counts .versions = ltb-true _ _ (q 0) in
@@ -95,7 +95,7 @@ module _ (T : Trail) (owners : List ℕ) (f : (x : ℕ) → x < T .counts .entit
         )
 
     facts-coded : EdgeFacts T k → timeBefore (T .edge) k < T .edge k .time → codedTest (T .counts) owners (T .edge) k ≡ true
-    unfolding codedTest codedEdge soundCodes sortsFit follows
+    unfolding codedTest codedEdge soundCodes sortsFit mayFollow
     facts-coded h after =
         let l = h .from-in in
         let m = h .to-in in

@@ -5,7 +5,7 @@ use mathlib.Core.Bool.{true}
 use borrow.Author.Tests.{ltb-true, leb-true, eqb-true, eqb-false, not-true, eq-eqb, ne-eqb}
 use Rattle.rows.specs.declared.Counts.{Counts}
 use Rattle.rules.specs.Trail.{Capacity, Trail, none, ownerOf}
-use Rattle.rules.specs.Sound.{allBelow, follows, timeBefore, soundCounts, soundEntity, soundPrevious, soundVersion, soundEdge, entityTest, versionTest, edgeTest, isSound}
+use Rattle.rules.specs.Sound.{allBelow, mayFollow, timeBefore, soundCounts, soundEntity, soundPrevious, soundVersion, entityTest, versionTest, edgeTest, isSound}
 use Rattle.soundness.specs.Facts.{CountFacts, EntityFacts, VersionFacts, EdgeFacts, RowFacts}
 use Rattle.soundness.proofs.All.{every-at, all-at}
 use Rattle.soundness.proofs.Edges.{timeBefore-suc}
@@ -41,7 +41,7 @@ module _ (T : Trail) where
     first-of h z = eqb-true _ _ (rw (eq-eqb (T .version k .start) 0 z) at h)
 
     later-of : soundPrevious k (T .version k) (T .version previous) ≡ true → (T .version k .start ≡ 0 → ⊥) → PreviousFacts
-    unfolding soundPrevious follows
+    unfolding soundPrevious mayFollow
     later-of h z =
         let q = every-at _ (rw (ne-eqb (T .version k .start) 0 z) at h) in
         (ltb-true _ _ (q 0), eqb-true _ _ (q 1), ltb-true _ _ (q 2))
@@ -62,7 +62,7 @@ module _ (T : Trail) where
         }
 
     pub edge-facts : edgeTest T k ≡ true → EdgeFacts T k
-    unfolding edgeTest soundEdge
+    unfolding edgeTest
     edge-facts h =
         let q = every-at _ h in
         record {
@@ -78,7 +78,7 @@ module _ (T : Trail) where
         }
 
     pub edge-after : edgeTest T k ≡ true → timeBefore (T .edge) k < T .edge k .time
-    unfolding edgeTest soundEdge follows
+    unfolding edgeTest mayFollow
     edge-after h = ltb-true _ _ (every-at _ h 8)
 
 module _ (cap : Capacity) (T : Trail) (s : isSound cap T ≡ true) where

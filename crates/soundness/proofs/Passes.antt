@@ -7,7 +7,7 @@ use borrow.Author.Tests.{lt-ltb, le-leb, eq-eqb, ne-eqb, eqb-true, eqb-false}
 use Rattle.rows.specs.declared.Counts.{Counts}
 use Rattle.refusals.proofs.Checks.{not-true-of, pick-true, pick-false}
 use Rattle.rules.specs.Trail.{Capacity, Trail}
-use Rattle.rules.specs.Sound.{follows, timeBefore, soundCounts, soundEntity, soundPrevious, soundVersion, soundEdge, entityTest, versionTest, edgeTest, isSound}
+use Rattle.rules.specs.Sound.{mayFollow, timeBefore, soundCounts, soundEntity, soundPrevious, soundVersion, entityTest, versionTest, edgeTest, isSound}
 use Rattle.soundness.specs.Facts.{CountFacts, EntityFacts, VersionFacts, EdgeFacts, RowFacts}
 use Rattle.soundness.proofs.All.{done, _also_, hold-every, at-all}
 use Rattle.soundness.proofs.Edges.{timeBefore-zero, timeBefore-suc}
@@ -24,7 +24,7 @@ module _ (T : Trail) where
 
   module _ (k : ℕ) where
     previous-passes : VersionFacts T k → soundPrevious k (T .version k) (T .version (T .version k .previous .0)) ≡ true
-    unfolding soundPrevious follows
+    unfolding soundPrevious mayFollow
     previous-passes f = go (eqb (T .version k .start) 0) refl
       where
         go : (b : Bool) → eqb (T .version k .start) 0 ≡ b → soundPrevious k (T .version k) (T .version (T .version k .previous .0)) ≡ true
@@ -39,7 +39,7 @@ module _ (T : Trail) where
         hold-every (lt-ltb _ _ (f .owner-in) also le-leb _ _ (f .start-end) also le-leb _ _ (f .end-last) also previous-passes f also done)
 
     pub edge-passes : EdgeFacts T k → timeBefore (T .edge) k < T .edge k .time → edgeTest T k ≡ true
-    unfolding edgeTest soundEdge follows
+    unfolding edgeTest mayFollow
     edge-passes f l =
         hold-every
         (lt-ltb _ _ (f .from-in)

@@ -14,7 +14,7 @@ use Rattle.rows.specs.Rows.{entityAt, versionAt}
 use Rattle.rows.specs.Capacity.{mostEntities}
 use Rattle.record.specs.Layout.{mostSort}
 use Rattle.rules.specs.Trail.{Trail, trailOf, tables}
-use Rattle.rules.specs.Sound.{allBelow, follows, soundPrevious, soundVersion, versionTest}
+use Rattle.rules.specs.Sound.{allBelow, mayFollow, soundPrevious, soundVersion, versionTest}
 use Rattle.soundness.specs.Parts.{codeOf, Owners, VersionsReady}
 use Rattle.soundness.proofs.All.{every-at, all-stop, all-next, below-next}
 use Rattle.soundness.proofs.Tests.{tests}
@@ -22,11 +22,11 @@ use Rattle.soundness.proofs.Tests.{tests}
 -- version k of row v, whose previous was read as r
 module _ (k : ℕ) (v p r : VersionRow) (q : r ≡ p) (s : v .start ≡ 0 → ⊥) (l : v .previous .0 < k) where
   pub previous-apart : (r .entity .0 ≡ v .entity .0 → ⊥) → false ≡ soundPrevious k v p
-  unfolding soundPrevious follows
+  unfolding soundPrevious mayFollow
   previous-apart h = rw (← q) (search tests depth 16)
 
   pub previous-same : r .entity .0 ≡ v .entity .0 → ltb (r .start) (v .start) ≡ soundPrevious k v p
-  unfolding soundPrevious follows
+  unfolding soundPrevious mayFollow
   previous-same h = rw (← q) (search tests depth 16)
 
 -- version k has row v, and the test gave r

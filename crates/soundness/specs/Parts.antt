@@ -12,7 +12,7 @@ use Rattle.rows.specs.Rows.{entityAt}
 use Rattle.rows.specs.Capacity.{mostEntities, versionCapacity}
 use Rattle.record.specs.Layout.{mostKind, mostSort}
 use Rattle.rules.specs.Trail.{Tables, Trail, capacityOf, trailOf, ownerOf}
-use Rattle.rules.specs.Sound.{every, allBelow, soundCounts, entityTest, sourceFits, targetFits, follows, timeBefore}
+use Rattle.rules.specs.Sound.{every, allBelow, soundCounts, entityTest, sourceFits, targetFits, mayFollow, timeBefore}
 
 -- the code of entity x: twice its number, and its sort
 abbrev pub codeOf : (ℕ → EntityRow) → ℕ → ℕ
@@ -41,7 +41,7 @@ sortsFit kind s t = every (leb 1 kind ∷ sourceFits kind s ∷ targetFits kind 
 
 -- an edge of row e after one at time b, from an entity of code x to one of code y, up to last
 unfoldable pub soundCodes : ℕ → ℕ → EdgeRow → ℕ → ℕ → Bool
-soundCodes last b e x y = every (sortsFit (e .kind) (x % 2) (y % 2) ∷ not (eqb x y) ∷ follows b (e .time) ∷ leb (e .time) last ∷ [])
+soundCodes last b e x y = every (sortsFit (e .kind) (x % 2) (y % 2) ∷ not (eqb x y) ∷ mayFollow b (e .time) ∷ leb (e .time) last ∷ [])
 
 unfoldable pub codedEdge : Counts → List ℕ → ℕ → EdgeRow → Bool
 codedEdge c owners b e =

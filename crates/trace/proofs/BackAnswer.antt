@@ -13,12 +13,11 @@ use Rattle.rows.specs.Rows.{versionAt, edgeAt}
 use Rattle.rules.specs.Trail.{Trail, tables, trailOf}
 use Rattle.rules.specs.Start.{startOf}
 use Rattle.rules.specs.Marks.{ones, overlaid}
-use Rattle.rules.specs.Backward.{traceChecks, backwardWork, backwardEntities, backwardOf}
+use Rattle.rules.specs.Backward.{traceChecks, backwardWork, backwardEntities, backwardOf, backwardTrace}
 use Rattle.closure.proofs.Backward.{length-backwardWork}
 use Rattle.closure.proofs.Traces.{passed-entity}
 use Rattle.trace.specs.TraceArcs.{markedBack}
 use Rattle.trace.specs.Owners.{EntitiesMarked}
-use Rattle.trace.specs.Answers.{backwardTrace}
 use Rattle.trace.proofs.StartLoop.{start-any}
 use Rattle.trace.proofs.Checked.{passed-rows}
 use Rattle.trace.proofs.BackMarks.{work-back}

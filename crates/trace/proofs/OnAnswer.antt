@@ -14,13 +14,12 @@ use Rattle.rules.specs.Trail.{Trail, tables, trailOf}
 use Rattle.rules.specs.Start.{startOf}
 use Rattle.rules.specs.Marks.{ones, overlaid}
 use Rattle.rules.specs.Backward.{traceChecks}
-use Rattle.rules.specs.Forward.{forwardWork, forwardEntities, forwardIntake, forwardOf}
+use Rattle.rules.specs.Forward.{forwardWork, forwardEntities, forwardIntake, forwardOf, forwardTrace}
 use Rattle.closure.proofs.Forward.{length-forwardWork}
 use Rattle.closure.proofs.Traces.{passed-entity}
 use Rattle.trace.specs.TraceArcs.{markedOn}
 use Rattle.trace.specs.Owners.{EntitiesMarked}
 use Rattle.trace.specs.Intake.{lastIntake}
-use Rattle.trace.specs.Answers.{forwardTrace}
 use Rattle.trace.proofs.StartLoop.{start-any}
 use Rattle.trace.proofs.IntakeLoop.{lastIntake-is}
 use Rattle.trace.proofs.Checked.{passed-rows}

@@ -2,4 +2,3 @@ pub mod Followed
 pub mod TraceArcs
 pub mod Owners
 pub mod Intake
-pub mod Answers

@@ -22,9 +22,8 @@ ghost use mathlib.Core.Path.{_≡_};
 ghost use Rattle.refusals.specs.declared.Checked.the-variants.{Passed};
 ghost use Rattle.refusals.specs.Refusals.{firstOf};
 ghost use Rattle.rules.specs.Trail.{tables};
-ghost use Rattle.rules.specs.Backward.{traceChecks, backwardOf};
-ghost use Rattle.rules.specs.Forward.{forwardOf};
-ghost use Rattle.trace.specs.Answers.{backwardTrace, forwardTrace};
+ghost use Rattle.rules.specs.Backward.{traceChecks, backwardTrace, backwardOf};
+ghost use Rattle.rules.specs.Forward.{forwardTrace, forwardOf};
 
 // The backward trace of entity x, where the checks pass.
 fn trace_back(

@@ -7,13 +7,10 @@ use rules::ForwardAnswer;
 use rules::LogAnswer;
 ghost use mathlib.Core.Path.{_≡_};
 ghost use Rattle.rules.specs.Trail.{tables};
-ghost use Rattle.rules.specs.Batch.{batchOf};
-ghost use Rattle.rules.specs.Backward.{backwardOf};
-ghost use Rattle.rules.specs.Forward.{forwardOf};
-ghost use Rattle.rules.specs.KeptLog.{keptLogOf};
-ghost use Rattle.growth.specs.Turn.{left};
-ghost use Rattle.trace.specs.Answers.{backwardTrace, forwardTrace};
-ghost use Rattle.kept_log.specs.Written.{keptLog};
+ghost use Rattle.rules.specs.Batch.{left, batchOf};
+ghost use Rattle.rules.specs.Backward.{backwardTrace, backwardOf};
+ghost use Rattle.rules.specs.Forward.{forwardTrace, forwardOf};
+ghost use Rattle.rules.specs.KeptLog.{keptLog, keptLogOf};
 
 // Takes the records of a file in, in order until the first one refused, and updates the counts where the caller keeps them.
 // It needs 1.6 MB of stack.

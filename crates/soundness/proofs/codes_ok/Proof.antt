@@ -1,5 +1,5 @@
 -- The four tests of `soundCodes`, in its order.
-use Rattle.rules.specs.Sound.{follows}
+use Rattle.rules.specs.Sound.{mayFollow}
 use Rattle.soundness.specs.Parts.{soundCodes}
 use Rattle.soundness.proofs.Coded.{every-four}
 use borrow.Author.Needs.{needs}
@@ -10,7 +10,7 @@ sorts-fit-requires : tie.Need-sorts-fit-requires
 sorts-fit-requires c κs = search needs
 
 returns : tie.Need-returns
-unfolding soundCodes follows
+unfolding soundCodes mayFollow
 returns c = search every-four
 
 pub codes-ok-spec : {M : Type 1} → statement M

@@ -30,8 +30,7 @@ use Rattle.rules.specs.declared.BatchAnswer.{BatchAnswer}
 use Rattle.rules.proofs.BatchAnswer as answer
 use Rattle.rules.proofs.BatchAnswer.Laws as answer-laws
 use Rattle.rules.specs.Trail.{tables}
-use Rattle.rules.specs.Batch.{batchOf}
-use Rattle.growth.specs.Turn.{left}
+use Rattle.rules.specs.Batch.{left, batchOf}
 use Rattle.trail.proofs.slt_batch as batch
 use Rattle.trail.proofs.slt_batch.Proof.Lent.{Row, Slices, Shares, countsPtr, sliceVals, tokens, fileOwns}
 
