@@ -26,9 +26,9 @@ use Rattle.kept_log.proofs.Same.{encodedBelow-same}
 use Rattle.agreement.specs.RoundTrip.{SameTrail, SameCalls}
 
 -- what is read of a call that goes on or stops
-unless-same : {A B : Type 0} (f : A → B) (x : Checked) (stop on on′ : A) → (x ≡ Passed → f on ≡ f on′) → f (ifRefused x stop on) ≡ f (ifRefused x stop on′)
-unless-same f Passed stop on on′ h = h refl
-unless-same f (Refused r) stop on on′ h = refl
+ifRefused-same : {A B : Type 0} (f : A → B) (x : Checked) (stop on on′ : A) → (x ≡ Passed → f on ≡ f on′) → f (ifRefused x stop on) ≡ f (ifRefused x stop on′)
+ifRefused-same f Passed stop on on′ h = h refl
+ifRefused-same f (Refused r) stop on on′ h = refl
 
 module _ (c : Counts) (t : Tables) (d : Counts) (u : Tables) (s : SameTrail (trailOf c t) (trailOf d u)) (p : isSound (capacityOf t) (trailOf c t) ≡ true)
     (q : isSound (capacityOf u) (trailOf d u) ≡ true) where
@@ -53,27 +53,27 @@ module _ (c : Counts) (t : Tables) (d : Counts) (u : Tables) (s : SameTrail (tra
     unfolding backwardOf
     backward-answer =
         rw checked-same
-        (unless-same (λ (b : BackwardTrace). b .answer) (firstOf (traceChecks c t x work marks)) _ _ _
+        (ifRefused-same (λ (b : BackwardTrace). b .answer) (firstOf (traceChecks c t x work marks)) _ _ _
         (λ h. λ j. record { refusal = 0; count = ones (s .backward x time (passed-entity c t x work marks h) j) }))
 
     backward-marks : backwardOf d u x time work marks .marks ≡ backwardOf c t x time work marks .marks
     unfolding backwardOf
     backward-marks =
         rw checked-same
-        (unless-same (λ (b : BackwardTrace). b .marks) (firstOf (traceChecks c t x work marks)) _ _ _ (λ h. ap (λ (m : List ℕ). overlaid m marks) (s .backward x time (passed-entity c t x work marks h))))
+        (ifRefused-same (λ (b : BackwardTrace). b .marks) (firstOf (traceChecks c t x work marks)) _ _ _ (λ h. ap (λ (m : List ℕ). overlaid m marks) (s .backward x time (passed-entity c t x work marks h))))
 
     forward-answer : forwardOf d u x time work marks .answer ≡ forwardOf c t x time work marks .answer
     unfolding forwardOf
     forward-answer =
         rw checked-same
-        (unless-same (λ (b : ForwardTrace). b .answer) (firstOf (traceChecks c t x work marks)) _ _ _
+        (ifRefused-same (λ (b : ForwardTrace). b .answer) (firstOf (traceChecks c t x work marks)) _ _ _
         (λ h. λ j. record { refusal = 0; count = ones (s .forward x time (passed-entity c t x work marks h) j); intake = s .intake x time (passed-entity c t x work marks h) j }))
 
     forward-marks : forwardOf d u x time work marks .marks ≡ forwardOf c t x time work marks .marks
     unfolding forwardOf
     forward-marks =
         rw checked-same
-        (unless-same (λ (b : ForwardTrace). b .marks) (firstOf (traceChecks c t x work marks)) _ _ _ (λ h. ap (λ (m : List ℕ). overlaid m marks) (s .forward x time (passed-entity c t x work marks h))))
+        (ifRefused-same (λ (b : ForwardTrace). b .marks) (firstOf (traceChecks c t x work marks)) _ _ _ (λ h. ap (λ (m : List ℕ). overlaid m marks) (s .forward x time (passed-entity c t x work marks h))))
 
   -- The kept log
 

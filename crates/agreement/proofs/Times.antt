@@ -21,7 +21,7 @@ use Rattle.rules.specs.PlainList.{changed, worked, added, addedBy}
 use Rattle.rules.specs.Calls.{Call, batch, backward, forward, plainAfter}
 use Rattle.soundness.specs.Taken.{Each}
 use Rattle.soundness.proofs.Decoded.{contents-each}
-use Rattle.soundness.proofs.BatchStep.{unless-keeps}
+use Rattle.soundness.proofs.BatchStep.{ifRefused-passed}
 use Rattle.agreement.specs.RoundTrip.{AllBytes}
 
 -- The records of a file of bytes
@@ -52,12 +52,12 @@ small-next rs (records.Event e) f h = go (decisionOf (worked rs) e)
 small-added : (cap : Capacity) (rs more : List Record) → Each Fits more → Small rs → Small (added cap rs more)
 unfolding added
 small-added cap rs [] f h = h
-small-added cap rs (r ∷ more) f h = unless-keeps Small (refusalOf cap (worked rs) r) _ _ h (small-added cap (r ∷ rs) more (f .1) (small-next rs r (f .0) h))
+small-added cap rs (r ∷ more) f h = ifRefused-passed Small (refusalOf cap (worked rs) r) _ _ h (λ _. small-added cap (r ∷ rs) more (f .1) (small-next rs r (f .0) h))
 
 small-addedBy : (cap : Capacity) (rs : List Record) (file : List ℕ) → Bytes file → Small rs → Small (addedBy cap rs file)
 unfolding addedBy
 small-addedBy cap rs file b h =
-    unless-keeps Small (firstOf (headerChecks file)) _ _ h (small-added cap rs (contentsOf file .records) (contents-fits file b) h)
+    ifRefused-passed Small (firstOf (headerChecks file)) _ _ h (λ _. small-added cap rs (contentsOf file .records) (contents-fits file b) h)
 
 pub last-small : (cs : List Call) → AllBytes cs → worked (plainAfter cs) .counts .last < 4294967296
 last-small [] b = omega arith

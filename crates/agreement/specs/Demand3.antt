@@ -5,65 +5,60 @@ use mathlib.Core.Path.{_≡_}
 use mathlib.Core.Logic.{_⊎_, _↔_}
 use mathlib.Core.Bool.{true}
 use mathlib.Core.List.{List, _∷_, _++_}
-use lib.ListN.{getD, take}
+use lib.ListN.{getD}
 use Rattle.refusals.specs.declared.Refusal.the-variants.{Undeclared, BufferShort}
 use Rattle.refusals.specs.Refusals.{refusalNo}
+use Rattle.rows.specs.declared.Counts.{Counts}
 use Rattle.record.specs.declared.Record.{Record}
 use Rattle.rules.specs.Trail.{Tables, capacityOf, trailOf}
 use Rattle.rules.specs.Sound.{isSound}
-use Rattle.rules.specs.Paths.{PathBy, PathAfter, Gains}
+use Rattle.rules.specs.Paths.{PathBy, PathFrom, Gains}
 use Rattle.rules.specs.History.{Item, accepted, Reached, IntakeTime}
 use Rattle.rules.specs.PlainList.{worked, itemsOf}
-use Rattle.rules.specs.Marks.{ones}
 use Rattle.rules.specs.Backward.{BackwardTrace, backwardOf}
 use Rattle.rules.specs.Forward.{ForwardTrace, forwardOf}
-use Rattle.closure.specs.Arcs.{Marked}
+use Rattle.rules.specs.Calls.{Call, plainAfter}
+use Rattle.closure.specs.ByRelations.{CountOf}
 use Rattle.causality.specs.Statements.{itemEvent, IsKept}
-use Rattle.rules.specs.Calls.{Call, heldAfter, Lent, AllLent, plainAfter}
+use Rattle.agreement.specs.Left.{LeftBy}
 
--- "In such a list a trace is refused only with 5 or 14."
-abbrev pub RefusedRightly : ℕ → Type 0
-RefusedRightly n = (n ≡ 0) ⊎ ((n ≡ refusalNo Undeclared) ⊎ (n ≡ refusalNo BufferShort))
-
--- of n entities each byte is 1 or 0, and "the count is the number of ones"
-pub record Counted (n : ℕ) (marks : List ℕ) (count : ℕ) : Type 0 where
+-- of n entities, each byte is 1 if M holds of it and else 0, and the count is of those that M holds of
+pub record MarksAre (n : ℕ) (M : ℕ → Type 0) (marks : List ℕ) (count : ℕ) : Type 0 where
   pub bits : (x : ℕ) → x < n → (getD marks x 0 ≡ 0) ⊎ (getD marks x 0 ≡ 1)
-  pub count-is : count ≡ ones (take n marks)
+  pub marked : (x : ℕ) → x < n → (getD marks x 0 ≡ 1) ↔ M x
+  pub counted : CountOf (λ x. (x < n) × M x) count
 
 -- backward from v at t, over the full list: exactly the entities with a causal path in by t
-pub record BackwardAgrees (rs : List Record) (v t : ℕ) (b : BackwardTrace) : Type 0 where
-  pub marked : (x : ℕ) → x < worked rs .counts .entities → Marked (b .marks) x ↔ PathBy (accepted (itemsOf rs)) t x v
-  pub counted : Counted (worked rs .counts .entities) (b .marks) (b .answer .count)
+abbrev pub BackwardAgrees : List Record → ℕ → ℕ → BackwardTrace → Type 0
+BackwardAgrees rs v t b = MarksAre (worked rs .counts .entities) (λ x. PathBy (accepted (itemsOf rs)) t x v) (b .marks) (b .answer .count)
 
 -- forward from u at t: exactly those reached from the latest kept intake at or before t, or from time 0 if there is none;
 -- the intake given is its time; never less than the full log's answer at t
 pub record ForwardAgrees (rs : List Record) (u t : ℕ) (f : ForwardTrace) : Type 0 where
-  pub marked : (y : ℕ) → y < worked rs .counts .entities → Marked (f .marks) y ↔ Reached u t (itemsOf rs) y
+  pub marks : MarksAre (worked rs .counts .entities) (Reached u t (itemsOf rs)) (f .marks) (f .answer .count)
   pub intake : IntakeTime u t (itemsOf rs) (f .answer .intake)
-  pub counted : Counted (worked rs .counts .entities) (f .marks) (f .answer .count)
-  pub never-less : (y : ℕ) → PathAfter (accepted (itemsOf rs)) t u y → Marked (f .marks) y
+  pub never-less : (y : ℕ) → PathFrom (accepted (itemsOf rs)) t u y → (y < worked rs .counts .entities) × (getD (f .marks) y 0 ≡ 1)
+
+-- "In such a list a trace is refused only with 5 or 14", and if it is not, it agrees
+pub record TraceAgrees (number : ℕ) (Agrees : Type 0) : Type 0 where
+  pub refusal : (number ≡ 0) ⊎ ((number ≡ refusalNo Undeclared) ⊎ (number ≡ refusalNo BufferShort))
+  pub agrees : number ≡ 0 → Agrees
 
 -- every event by which an entity gained an ancestor is a kept intake of it
 abbrev pub GainsAreKept : List Item → Type 0
 GainsAreKept hs = (later : List Item) (h : Item) (earlier : List Item) → hs ≡ later ++ (h ∷ earlier) → Gains (accepted earlier) (itemEvent h) → IsKept h
 
--- what holds after the calls, for a trace lent what they leave, in tables of any length, with any entity, time and buffers
-pub record Agrees (cs : List Call) : Type 0 where
-  pub sound : (t : Tables) → Lent (heldAfter cs) t → isSound (capacityOf t) (trailOf (heldAfter cs .counts) t) ≡ true
-  pub backward-refusal : (t : Tables) → Lent (heldAfter cs) t → (v time : ℕ) (work marks : List ℕ)
-      → RefusedRightly (backwardOf (heldAfter cs .counts) t v time work marks .answer .refusal)
-  pub backward : (t : Tables) → Lent (heldAfter cs) t → (v time : ℕ) (work marks : List ℕ)
-      → backwardOf (heldAfter cs .counts) t v time work marks .answer .refusal ≡ 0
-      → BackwardAgrees (plainAfter cs) v time (backwardOf (heldAfter cs .counts) t v time work marks)
-  pub forward-refusal : (t : Tables) → Lent (heldAfter cs) t → (u time : ℕ) (work marks : List ℕ)
-      → RefusedRightly (forwardOf (heldAfter cs .counts) t u time work marks .answer .refusal)
-  pub forward : (t : Tables) → Lent (heldAfter cs) t → (u time : ℕ) (work marks : List ℕ)
-      → forwardOf (heldAfter cs .counts) t u time work marks .answer .refusal ≡ 0
-      → ForwardAgrees (plainAfter cs) u time (forwardOf (heldAfter cs .counts) t u time work marks)
-  pub gains : GainsAreKept (itemsOf (plainAfter cs))
+-- counts c and tables t agree with the plain list rs: so do traces with any entity, time and buffers
+pub record Agrees (rs : List Record) (c : Counts) (t : Tables) : Type 0 where
+  pub sound : isSound (capacityOf t) (trailOf c t) ≡ true
+  pub backward : (v time : ℕ) (work marks : List ℕ)
+      → TraceAgrees (backwardOf c t v time work marks .answer .refusal) (BackwardAgrees rs v time (backwardOf c t v time work marks))
+  pub forward : (u time : ℕ) (work marks : List ℕ)
+      → TraceAgrees (forwardOf c t u time work marks .answer .refusal) (ForwardAgrees rs u time (forwardOf c t u time work marks))
+  pub gains : GainsAreKept (itemsOf rs)
   -- "Over a trail grown from fresh, versions ≤ entities + edges."
-  pub versions : heldAfter cs .counts .versions ≤ heldAfter cs .counts .entities + heldAfter cs .counts .edges
+  pub versions : c .versions ≤ c .entities + c .edges
 
 -- "All this is a single claim about the list and not one for each call."
 abbrev pub Demand3 : Type 0
-Demand3 = (cs : List Call) → AllLent cs → Agrees cs
+Demand3 = (cs : List Call) (c : Counts) (t : Tables) → LeftBy cs c t → Agrees (plainAfter cs) c t

@@ -1,3 +1,10 @@
-pub mod Taken
+-- what lists of calls leave
+pub mod Left
+-- the claims
+pub mod Demand2
 pub mod Demand3
 pub mod RoundTrip
+-- what the public calls carry of them
+pub mod Promises
+-- plain lists, for the proofs
+pub mod Taken

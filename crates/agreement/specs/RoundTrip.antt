@@ -11,7 +11,8 @@ use Rattle.rules.specs.Batch.{Batched, batchOf}
 use Rattle.rules.specs.Backward.{backwardEntities, backwardOf}
 use Rattle.rules.specs.Forward.{forwardEntities, forwardIntake, forwardOf}
 use Rattle.rules.specs.KeptLog.{eventRecord, KeptLog, keptLogOf}
-use Rattle.rules.specs.Calls.{Call, batch, backward, forward, heldAfter, Lent, AllLent}
+use Rattle.rules.specs.Calls.{Call, batch, backward, forward}
+use Rattle.agreement.specs.Left.{LeftBy}
 
 -- the files of the batches are of bytes
 abbrev pub AllBytes : List Call → Type 0
@@ -55,11 +56,11 @@ pub record TakenAgain (c : Counts) (t : Tables) (b : Batched) : Type 0 where
 abbrev pub writtenLog : KeptLog → List ℕ
 writtenLog k = take (k .answer .length) (k .out)
 
--- after any list of calls, for a writer lent what they leave, with any output that is long enough, and a fresh trail in
--- tables that hold anything
+-- a writer that refused nothing wrote a log that a fresh trail, in tables that hold anything, takes in again
+abbrev pub LogTakenAgain : Counts → Tables → KeptLog → Type 0
+LogTakenAgain c t k =
+    k .answer .refusal ≡ 0 → (lent : Tables) → EnoughRows (capacityOf lent) c → TakenAgain c t (batchOf freshCounts lent (writtenLog k))
+
+-- after any list of calls, for a writer with any output
 abbrev pub RoundTrip : Type 0
-RoundTrip =
-    (cs : List Call) → AllLent cs → AllBytes cs → (t : Tables) → Lent (heldAfter cs) t → (out : List ℕ)
-    → keptLogOf (heldAfter cs .counts) t out .answer .refusal ≡ 0
-    → (lent : Tables) → EnoughRows (capacityOf lent) (heldAfter cs .counts)
-    → TakenAgain (heldAfter cs .counts) t (batchOf freshCounts lent (writtenLog (keptLogOf (heldAfter cs .counts) t out)))
+RoundTrip = (cs : List Call) (c : Counts) (t : Tables) → LeftBy cs c t → AllBytes cs → (out : List ℕ) → LogTakenAgain c t (keptLogOf c t out)

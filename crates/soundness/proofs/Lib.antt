@@ -24,3 +24,8 @@ pub mod Written
 pub mod TableStep
 pub mod Decoded
 pub mod BatchStep
+-- What a batch leaves as it was lent
+pub mod Past
+pub mod RowsStay
+pub mod FrameStep
+pub mod Frame

@@ -3,3 +3,5 @@ pub mod Facts
 pub mod Taken
 -- What single functions compute
 pub mod Parts
+-- What a batch leaves as it was lent
+pub mod Frame

@@ -1,0 +1,38 @@
+-- Demand 2, of every list of calls: the tables are those that the plain list gives when worked from none. The working
+-- (`worked`) is the version building of the paper's section 4 under document 01's rules.
+use Prim.Native.Nat.{ℕ, _≤_, _<_}
+use mathlib.Core.Path.{_≡_}
+use mathlib.Core.List.{List, _∷_, _++_, reverse}
+use lib.ListN.{length, take}
+use Rattle.rows.specs.declared.Counts.{Counts}
+use Rattle.rows.specs.Rows.{entityAt, versionAt, edgeAt}
+use Rattle.record.specs.declared.Record.{Record}
+use Rattle.rules.specs.Trail.{Tables, trailOf}
+use Rattle.rules.specs.Batch.{contentsOf, batchOf}
+use Rattle.rules.specs.History.{accepted, keptEvents}
+use Rattle.rules.specs.PlainList.{worked, itemsOf}
+use Rattle.rules.specs.Calls.{Call, batch, plainAfter}
+use Rattle.causality.specs.Statements.{Logged}
+use Rattle.agreement.specs.Left.{LeftBy}
+
+-- counts and rows in use are those of the plain list, its last record first
+pub record Holds (rs : List Record) (c : Counts) (t : Tables) : Type 0 where
+  pub counts : c ≡ worked rs .counts
+  pub entity-rows : (k : ℕ) → k < c .entities → entityAt (t .entities) k ≡ worked rs .entity k
+  pub version-rows : (k : ℕ) → k < c .versions → versionAt (t .versions) k ≡ worked rs .version k
+  pub edge-rows : (k : ℕ) → k < c .edges → edgeAt (t .edges) k ≡ worked rs .edge k
+  pub accepted : c .accepted ≡ length (accepted (itemsOf rs))
+  -- the edges are the kept events in order, with their kinds, entities and times
+  pub edges : c .edges ≡ length (keptEvents (itemsOf rs))
+  pub kept : Logged (trailOf c t) (keptEvents (itemsOf rs))
+
+-- the plain list rs became rs′ by the first n records of the file, in order
+pub record GrownBy (n : ℕ) (file : List ℕ) (rs rs′ : List Record) : Type 0 where
+  pub among : n ≤ length (contentsOf file .records)
+  pub grown : rs′ ≡ reverse (take n (contentsOf file .records)) ++ rs
+
+pub record Demand2 : Type 0 where
+  pub holds : (cs : List Call) (c : Counts) (t : Tables) → LeftBy cs c t → Holds (plainAfter cs) c t
+  -- "A batch returns .. how many records it took in; the tables show those records."
+  pub taken : (cs : List Call) (c : Counts) (t : Tables) → LeftBy cs c t → (file : List ℕ)
+      → GrownBy (batchOf c t file .answer .taken) file (plainAfter cs) (plainAfter (batch t file ∷ cs))

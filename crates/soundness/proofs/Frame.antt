@@ -1,0 +1,102 @@
+-- What a batch leaves as it was lent: by induction on its records, each of which is taken in over sound tables.
+use Prim.Native.Nat.{ℕ, _+_}
+use native.Mathlib.Omega.{arith}
+use mathlib.Core.Path.{_≡_, refl, _∙_}
+use mathlib.Core.Logic.{inl, inr}
+use mathlib.Core.Bool.{true}
+use mathlib.Core.List.{List, [], _∷_}
+use borrow.Author.Tests.{not-false}
+use Rattle.refusals.specs.declared.Checked.{Checked}
+use Rattle.refusals.specs.Refusals.{firstOf}
+use Rattle.rows.specs.declared.Counts.{Counts}
+use Rattle.record.specs.declared.Record.{Record}
+use Rattle.rules.specs.Trail.{Tables, capacityOf, Trail, trailOf}
+use Rattle.rules.specs.Sound.{isSound}
+use Rattle.rules.specs.Record.{stepOf}
+use Rattle.rules.specs.Batch.{batched, takeIn, contentsOf, batchChecks, batchOf}
+use Rattle.soundness.specs.Taken.{SortFits, Each}
+use Rattle.soundness.specs.Frame.{CountsGrow, LatestOrAdded, RowsStay, Framed, Frame}
+use Rattle.soundness.proofs.Taken.{passed-at}
+use Rattle.soundness.proofs.TableStep.{step-sound}
+use Rattle.soundness.proofs.Decoded.{contents-fit}
+use Rattle.soundness.proofs.BatchStep.{ifRefused-passed}
+use Rattle.soundness.proofs.Past.{past-refl, past-trans}
+use Rattle.soundness.proofs.FrameStep.{step-framed}
+
+-- Nothing taken in, and one batch after another
+
+grow-trans : {c c1 c2 : Counts} {m n : ℕ} → CountsGrow c c1 m → CountsGrow c1 c2 n → CountsGrow c c2 (m + n)
+grow-trans p q = search arith
+
+rows-refl : (T : Trail) → RowsStay T T
+rows-refl T = record {
+  sort-same = λ x l. refl;
+  latest-or-added = λ x l. inl refl;
+  owner-same = λ k l. refl;
+  start-same = λ k l. refl;
+  end-le = λ k l. omega arith;
+  previous-same = λ k l. refl;
+  edge-same = λ k l. refl;
+}
+
+module _ {T T1 T2 : Trail} {m n : ℕ} (g : CountsGrow (T .counts) (T1 .counts) m) (h : CountsGrow (T1 .counts) (T2 .counts) n) (p : RowsStay T T1) (q : RowsStay T1 T2) where
+  rows-trans : RowsStay T T2
+  rows-trans = record {
+    sort-same = λ x l. q .sort-same x (omega arith) ∙ p .sort-same x l;
+    latest-or-added = λ x l. latest (p .latest-or-added x l) (q .latest-or-added x (omega arith));
+    owner-same = λ k l. q .owner-same k (omega arith) ∙ p .owner-same k l;
+    start-same = λ k l. q .start-same k (omega arith) ∙ p .start-same k l;
+    end-le = λ k l. let a = p .end-le k l in let b = q .end-le k (omega arith) in omega arith;
+    previous-same = λ k l. q .previous-same k (omega arith) ∙ p .previous-same k l;
+    edge-same = λ k l. q .edge-same k (omega arith) ∙ p .edge-same k l;
+  }
+    where
+      latest : {x : ℕ} → LatestOrAdded T T1 x → LatestOrAdded T1 T2 x → LatestOrAdded T T2 x
+      latest (inl a) (inl b) = inl (b ∙ a)
+      latest (inr a) (inl b) = inr (omega arith, omega arith)
+      latest a (inr b) = inr (omega arith, omega arith)
+
+framed-refl : (c : Counts) (t : Tables) (x : Checked) → Framed c t (batched x 0 c t)
+framed-refl c t x = record {
+  counts = search arith;
+  entities = past-refl _ _;
+  versions = past-refl _ _;
+  edges = past-refl _ _;
+  rows = rows-refl (trailOf c t);
+  none-taken = λ e. (refl, refl);
+}
+
+framed-trans : (x : Checked) {c c1 c2 : Counts} {t t1 t2 : Tables} {m n : ℕ} → Framed c t (batched x m c1 t1) → Framed c1 t1 (batched x n c2 t2)
+    → Framed c t (batched x (m + n) c2 t2)
+framed-trans x p q =
+    let g = p .counts in
+    let h = q .counts in
+    record {
+      counts = grow-trans g h;
+      entities = past-trans (omega arith) (p .entities) (q .entities);
+      versions = past-trans (omega arith) (p .versions) (q .versions);
+      edges = past-trans (omega arith) (p .edges) (q .edges);
+      rows = rows-trans g h (p .rows) (q .rows);
+      none-taken = λ e.
+          let a = p .none-taken (omega arith) in
+          let b = q .none-taken (omega arith) in
+          (b .0 ∙ a .0, b .1 ∙ a .1);
+    }
+
+-- The records of a file
+
+module _ (c : Counts) (t : Tables) where
+  -- c1 and t1 are what n records left
+  takeIn-framed : (rs : List Record) (c1 : Counts) (t1 : Tables) (n : ℕ) (ending : Checked) → Each SortFits rs → isSound (capacityOf t1) (trailOf c1 t1) ≡ true
+      → ((x : Checked) → Framed c t (batched x n c1 t1)) → Framed c t (takeIn c1 t1 n rs ending)
+  unfolding takeIn
+  takeIn-framed [] c1 t1 n ending f s p = p ending
+  takeIn-framed (r ∷ rs) c1 t1 n ending f s p =
+      ifRefused-passed (Framed c t) (stepOf c1 t1 r .checked) _ _ (p (stepOf c1 t1 r .checked))
+      (λ q. takeIn-framed rs _ _ (n + 1) ending (f .1) (step-sound c1 t1 r s (f .0)) (λ x. framed-trans x (p x) (step-framed c1 t1 s r q x)))
+
+pub frame : Frame
+unfolding batchOf batchChecks
+frame c t file =
+    ifRefused-passed (Framed c t) (firstOf (batchChecks c t file)) _ _ (framed-refl c t (firstOf (batchChecks c t file)))
+    (λ q. takeIn-framed c t (contentsOf file .records) c t 0 (contentsOf file .ending) (contents-fit file) (not-false _ (passed-at _ q 0)) (framed-refl c t))

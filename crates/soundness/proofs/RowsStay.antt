@@ -1,0 +1,78 @@
+-- What stays of the rows in use when a record is taken in.
+use Prim.Native.Nat.{ℕ, _≤_, _<_}
+use native.Mathlib.Omega.{arith}
+use mathlib.Core.Path.{_≡_, refl, ap}
+use mathlib.Core.Logic.{inl, inr, ⊎-elim}
+use Rattle.refusals.specs.declared.Checked.the-variants.{Passed}
+use Rattle.rows.specs.declared.EntityRow.{EntityRow}
+use Rattle.rows.specs.declared.VersionRow.{VersionRow}
+use Rattle.record.specs.declared.Declaration.{Declaration}
+use Rattle.record.specs.declared.Event.{Event}
+use Rattle.record.specs.declared.Record.{Record}
+use Rattle.record.specs.declared.Record.the-variants as records
+use Rattle.rules.specs.declared.Decision.{Decision}
+use Rattle.rules.specs.declared.Decision.the-variants.{Repeat, Widen, Renew}
+use Rattle.rules.specs.Trail.{Capacity, Trail, latestOf}
+use Rattle.rules.specs.Decide.{decisionOf}
+use Rattle.rules.specs.Record.{entityRow, declared, renewed, refusalOf, happened, changeOf}
+use Rattle.rules.specs.PlainList.{put, changed}
+use Rattle.soundness.specs.Facts.{RowFacts}
+use Rattle.soundness.specs.Taken.{EventTaken}
+use Rattle.soundness.specs.Frame.{LatestOrAdded, RowsStay}
+use Rattle.soundness.proofs.Put.{put-other, put-cases}
+use Rattle.soundness.proofs.Taken.{event-taken}
+use Rattle.soundness.proofs.Extends.{Extends}
+use Rattle.soundness.proofs.Declared.{declared-extends, other-entity}
+use Rattle.soundness.proofs.Repeated.{repeated-extends}
+use Rattle.soundness.proofs.Widened.{widened-extends}
+use Rattle.soundness.proofs.Renewed.{renewed-extends}
+
+module _ (T : Trail) where
+  -- what is left to show of T′ where it extends T: latest versions and ends
+  abbrev Latest : Trail → Type 0
+  Latest T′ = (x : ℕ) → x < T .counts .entities → LatestOrAdded T T′ x
+
+  abbrev Ends : (ℕ → VersionRow) → Type 0
+  Ends W = (k : ℕ) → k < T .counts .versions → T .version k .end ≤ W k .end
+
+  extends-stay : (T′ : Trail) → Extends T T′ → Latest T′ → Ends (T′ .version) → RowsStay T T′
+  extends-stay T′ g latest ends = record {
+    sort-same = g .sort-same;
+    latest-or-added = latest;
+    owner-same = g .owner-same;
+    start-same = g .start-same;
+    end-le = ends;
+    previous-same = g .previous-same;
+    edge-same = g .edge-same;
+  }
+
+  -- a version added leaves the ends of those before it
+  added-ends : (r : VersionRow) → Ends (put (T .version) (T .counts .versions) r)
+  added-ends r k l = rw (put-other (T .version) (T .counts .versions) r k (λ e. omega arith)) (omega arith)
+
+  declared-stay : (d : Declaration) → RowsStay T (changed T (declared (T .counts) d))
+  declared-stay d =
+      extends-stay _ (declared-extends T d) (λ x l. inl (ap (λ (r : EntityRow). r .latest .0) (other-entity T d x l)))
+      (added-ends _)
+
+  module _ (cap : Capacity) (f : RowFacts T) (e : Event) where
+    -- the end becomes the event's time, which is above every end
+    widened-ends : T .counts .last < e .time → (o : ℕ) (r : VersionRow) → r .end ≡ e .time → Ends (put (T .version) o r)
+    widened-ends p o r q k l =
+        let i = f .version k l .end-last in
+        ⊎-elim (λ c. rw c (omega arith)) (λ c. rw c (omega arith)) (put-cases (T .version) o r k)
+
+    renewed-latest : Latest (changed T (renewed T e))
+    renewed-latest x l =
+        ⊎-elim (λ c. let q = ap (λ (r : EntityRow). r .latest .0) c in inr (omega arith, omega arith)) (λ c. inl (ap (λ (r : EntityRow). r .latest .0) c))
+        (put-cases (T .entity) (e .target .0) (entityRow (T .entity (e .target .0) .sort) (T .counts .versions)) x)
+
+    happened-stay : (d : Decision) → EventTaken cap T e d → RowsStay T (changed T (happened T e d))
+    happened-stay (Repeat k) p = extends-stay _ (repeated-extends cap T e (Repeat k) p) (λ x l. inl refl) (λ k l. omega arith)
+    happened-stay Widen p = extends-stay _ (widened-extends cap T e Widen p) (λ x l. inl refl) (widened-ends (p .later) _ _ refl)
+    happened-stay Renew p = extends-stay _ (renewed-extends cap T e Renew p) renewed-latest (added-ends _)
+
+  pub step-stay : (cap : Capacity) (r : Record) → refusalOf cap T r ≡ Passed → RowFacts T → RowsStay T (changed T (changeOf T r))
+  unfolding refusalOf changeOf
+  step-stay cap (records.Declaration d) h f = declared-stay d
+  step-stay cap (records.Event e) h f = happened-stay cap f e (decisionOf T e) (event-taken cap T e (decisionOf T e) h)
