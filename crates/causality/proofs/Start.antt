@@ -7,6 +7,7 @@ use mathlib.Core.List.{List}
 use Rattle.rules.specs.Trail.{Trail, latestOf}
 use Rattle.rules.specs.History.{Item}
 use Rattle.rules.specs.Start.{OnChain, StartVersion}
+use Rattle.rules.proofs.Start.{start-one}
 use Rattle.causality.specs.Working.{ne, nv, startTime, previousOf, PrevIn, Grown}
 use Rattle.causality.proofs.Invariant.{Inv, prev-in}
 use Rattle.causality.proofs.Growth.{inv}
@@ -53,12 +54,9 @@ walk-version {T} {x = x} {t = t} {s = s} i h r =
     go w k (inl m) = m
     go w k (inr m) = absurd (omega (arith, m .0))
 
--- there is one, and one alone
+-- there is one
 pub start-some : {T : Trail} {hs : List Item} → Grown T hs → (x t : ℕ) → x < ne T → (s : ℕ) × StartVersion T x t s
 start-some g x t h = let s = starts-some g x t h in (s .0, walk-version (inv g) h (s .1))
-
-pub start-one : {T : Trail} {x t s r : ℕ} → StartVersion T x t s → StartVersion T x t r → s ≡ r
-start-one {s = s} {r = r} p q = omega (arith, p .highest r (q .on-chain) (q .by), q .highest s (p .on-chain) (p .by))
 
 pub version-walk : {T : Trail} {hs : List Item} {x t s : ℕ} → Grown T hs → x < ne T → StartVersion T x t s → StartsAt T x t s
 version-walk {T} {x = x} {t = t} g h p =

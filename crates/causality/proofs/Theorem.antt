@@ -9,13 +9,14 @@ use Rattle.rules.specs.History.{Item, kept, dropped, accepted, NoIntake, Latest
 use Rattle.rules.specs.Start.{StartVersion}
 use Rattle.rules.specs.Backward.{BackwardMarks}
 use Rattle.rules.specs.Forward.{ForwardMarks}
+use Rattle.rules.proofs.Start.{start-one}
 use Rattle.causality.specs.Working.{ne, EntityMarked, Grown}
 use Rattle.causality.specs.Order.{OrderPath, upTo, above, since, Falling}
 use Rattle.causality.specs.Statements.{itemEvent, IsKept, Faithful, Stable, Document01, Claims}
 use Rattle.causality.proofs.Reach.{reach-path, reach-part}
 use Rattle.causality.proofs.Parts.{upTo-part, since-part, since-none, since-intake, latest-intake}
 use Rattle.causality.proofs.Accepted.{grown-ordered}
-use Rattle.causality.proofs.Start.{start-some, start-one, version-walk}
+use Rattle.causality.proofs.Start.{start-some, version-walk}
 use Rattle.causality.proofs.Forward.{forward-reach}
 use Rattle.causality.proofs.Ancestors.{NoGain, dropped-gains-none}
 use Rattle.causality.proofs.Backward.{backward-reach}

@@ -15,5 +15,14 @@ pub mod Forward
 pub mod Entities
 pub mod Ones
 pub mod Traces
+-- the calls
+pub mod Checked
+pub mod Descending
+pub mod Buffers
+pub mod Marking
+pub mod TraceCalls
+pub mod Traced
+pub mod Determined
+pub mod ByRelations
 -- trails with the same rows in use
 pub mod SameFacts

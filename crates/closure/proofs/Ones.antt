@@ -12,7 +12,7 @@ use borrow.Author.Tests.{eqb-true, eq-eqb}
 use Rattle.rules.specs.Marks.{ones}
 use Rattle.closure.specs.Arcs.{Marked}
 use Rattle.closure.specs.Collected.{collected}
-use Rattle.closure.specs.Places.{placesBelow, places, Falling}
+use Rattle.closure.specs.ByRelations.{Descending}
 use Rattle.closure.proofs.Marks.{marked-in}
 use Rattle.closure.proofs.Collected.{collected-iff}
 
@@ -25,7 +25,13 @@ pub ones-take-suc : (m : List ℕ) (j : ℕ) → j < length m → ones (take (su
 unfolding ones
 ones-take-suc m j l = ap ones (take-suc m j 0 l) ∙ ones-append (take j m) (getD m j 0 ∷ []) ∙ omega arith
 
--- the places marked
+-- the places marked below n, the highest first
+
+abbrev placesBelow : List ℕ → ℕ → List ℕ
+placesBelow m n = collected (λ k. eqb (getD m k 0) 1) (λ k. k) n
+
+abbrev pub places : List ℕ → List ℕ
+places m = placesBelow m (length m)
 
 length-placesBelow : (m : List ℕ) (n : ℕ) → n ≤ length m → length (placesBelow m n) ≡ ones (take n m)
 unfolding collected ones
@@ -46,15 +52,15 @@ places-iff m x =
     let i = collected-iff (λ k. eqb (getD m k 0) 1) (λ k. k) (length m) x in
     (λ z. let o = i .0 z in subst (Marked m) (sym (o .3)) (eqb-true _ _ (o .2)), λ o. i .1 (x, marked-in m x o, eq-eqb _ _ o, refl))
 
-falling-below : (m : List ℕ) (n : ℕ) → Falling (placesBelow m n)
+descending-below : (m : List ℕ) (n : ℕ) → Descending (placesBelow m n)
 unfolding collected
-falling-below m zero = tt
-falling-below m (suc n) = go (eqb (getD m n 0) 1) (falling-below m n)
+descending-below m zero = tt
+descending-below m (suc n) = go (eqb (getD m n 0) 1) (descending-below m n)
   where
-    go : (b : Bool) → Falling (placesBelow m n) → Falling (cond b (n ∷ placesBelow m n) (placesBelow m n))
+    go : (b : Bool) → Descending (placesBelow m n) → Descending (cond b (n ∷ placesBelow m n) (placesBelow m n))
     go true f = (λ y k. let o = collected-iff (λ k. eqb (getD m k 0) 1) (λ k. k) n y .0 k in omega (arith, o .1, o .3), f)
     go false f = f
 
 -- and none stands twice
-pub places-falling : (m : List ℕ) → Falling (places m)
-places-falling m = falling-below m (length m)
+pub places-descending : (m : List ℕ) → Descending (places m)
+places-descending m = descending-below m (length m)

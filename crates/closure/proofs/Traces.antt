@@ -45,7 +45,7 @@ passed-entity c t x work marks p = leb-false _ _ (passed-all-false _ p .1 .0)
 
 -- where the work buffer marks the versions of a set, the mark buffer marks their entities
 module _ (T : Trail) (work : List ℕ) (M : ℕ → Type 0) (is : (w : ℕ) → Marked work w ↔ M w) (inside : (w : ℕ) → M w → w < T .counts .versions) where
-  entities-iff : (x : ℕ) → x < T .counts .entities
+  pub entities-iff : (x : ℕ) → x < T .counts .entities
       → Marked (marksBelow (T .version) work (T .counts .versions) (T .counts .entities)) x ↔ ((w : ℕ) × M w × (ownerOf T w ≡ x))
   entities-iff x h =
       let i = marksBelow-iff (T .version) work (T .counts .versions) (T .counts .entities) x h in

@@ -1,4 +1,4 @@
 pub mod Arcs
+pub mod ByRelations
 pub mod Collected
-pub mod Places
 pub mod Same

@@ -12,14 +12,14 @@ use Rattle.rows.specs.declared.VersionNo.{VersionNo}
 use Rattle.rows.specs.Rows.{versionAt, edgeAt}
 use Rattle.rules.specs.Trail.{Trail, tables, trailOf}
 use Rattle.rules.specs.Start.{startOf}
-use Rattle.rules.specs.Marks.{ones, overlaid}
 use Rattle.rules.specs.Backward.{traceChecks, backwardWork, backwardEntities, backwardOf, backwardTrace}
 use Rattle.closure.proofs.Backward.{length-backwardWork}
 use Rattle.closure.proofs.Traces.{passed-entity}
+use Rattle.closure.proofs.Checked.{passed-rows}
+use Rattle.closure.proofs.TraceCalls.{backwardOf-passed}
 use Rattle.trace.specs.TraceArcs.{markedBack}
 use Rattle.trace.specs.Owners.{EntitiesMarked}
 use Rattle.trace.proofs.StartLoop.{start-any}
-use Rattle.trace.proofs.Checked.{passed-rows}
 use Rattle.trace.proofs.BackMarks.{work-back}
 use Rattle.trace.proofs.Buffers.{left-work, left-marks}
 
@@ -38,11 +38,6 @@ module _ (c : Counts) (es vs ds : List ℕ) (x t : ℕ) (work marks : List ℕ) 
       rw (z, e)
 
   module _ (p : checked ≡ Passed) where
-    backward-taken : backwardOf c (tables es vs ds) x t work marks
-        ≡ backwardTrace (record { refusal = 0; count = ones (backwardEntities T x t) }) (overlaid (backwardWork T x t) work) (overlaid (backwardEntities T x t) marks)
-    unfolding backwardOf
-    backward-taken = rw p
-
     module _
         (s : VersionNo)
         (part marks′ : List ℕ)
@@ -63,4 +58,4 @@ module _ (c : Counts) (es vs ds : List ℕ) (x t : ℕ) (work marks : List ℕ) 
             let l = length-backwardWork T x t in
             let w = left-work T (backwardWork T x t) work l part marked in
             let m = left-marks T (backwardWork T x t) work l part marked marks marks′ n qm in
-            (λ i. backwardTrace (record { refusal = 0; count = m .count i }) (w i) (m .marks i)) ∙ sym backward-taken
+            (λ i. backwardTrace (record { refusal = 0; count = m .count i }) (w i) (m .marks i)) ∙ sym (backwardOf-passed c (tables es vs ds) x t work marks p)

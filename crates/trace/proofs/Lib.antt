@@ -10,7 +10,6 @@ pub mod OnArcs
 pub mod BackMarks
 pub mod OnMarks
 pub mod EntityMarks
-pub mod Checked
 pub mod Buffers
 pub mod BackAnswer
 pub mod OnAnswer

@@ -12,17 +12,17 @@ use Rattle.rows.specs.declared.VersionNo.{VersionNo}
 use Rattle.rows.specs.Rows.{versionAt, edgeAt}
 use Rattle.rules.specs.Trail.{Trail, tables, trailOf}
 use Rattle.rules.specs.Start.{startOf}
-use Rattle.rules.specs.Marks.{ones, overlaid}
 use Rattle.rules.specs.Backward.{traceChecks}
 use Rattle.rules.specs.Forward.{forwardWork, forwardEntities, forwardIntake, forwardOf, forwardTrace}
 use Rattle.closure.proofs.Forward.{length-forwardWork}
 use Rattle.closure.proofs.Traces.{passed-entity}
+use Rattle.closure.proofs.Checked.{passed-rows}
+use Rattle.closure.proofs.TraceCalls.{forwardOf-passed}
 use Rattle.trace.specs.TraceArcs.{markedOn}
 use Rattle.trace.specs.Owners.{EntitiesMarked}
 use Rattle.trace.specs.Intake.{lastIntake}
 use Rattle.trace.proofs.StartLoop.{start-any}
 use Rattle.trace.proofs.IntakeLoop.{lastIntake-is}
-use Rattle.trace.proofs.Checked.{passed-rows}
 use Rattle.trace.proofs.OnMarks.{work-on}
 use Rattle.trace.proofs.Buffers.{left-work, left-marks}
 
@@ -41,11 +41,6 @@ module _ (c : Counts) (es vs ds : List ℕ) (x t : ℕ) (work marks : List ℕ) 
       rw (z, e)
 
   module _ (p : checked ≡ Passed) where
-    forward-taken : forwardOf c (tables es vs ds) x t work marks
-        ≡ forwardTrace (record { refusal = 0; count = ones (forwardEntities T x t); intake = forwardIntake T x t }) (overlaid (forwardWork T x t) work) (overlaid (forwardEntities T x t) marks)
-    unfolding forwardOf
-    forward-taken = rw p
-
     module _
         (s : VersionNo)
         (part marks′ : List ℕ)
@@ -69,4 +64,4 @@ module _ (c : Counts) (es vs ds : List ℕ) (x t : ℕ) (work marks : List ℕ) 
             let m = left-marks T (forwardWork T x t) work l part marked marks marks′ n qm in
             let f = passed-rows c (tables es vs ds) x work marks p in
             let z : g ≡ forwardIntake T x t = qg ∙ ap (λ v. lastIntake (versionAt vs) (edgeAt ds) v t (c .edges)) (qs ∙ start-any c es vs ds x t) ∙ lastIntake-is T f (startOf T x t) t in
-            (λ i. forwardTrace (record { refusal = 0; count = m .count i; intake = z i }) (w i) (m .marks i)) ∙ sym forward-taken
+            (λ i. forwardTrace (record { refusal = 0; count = m .count i; intake = z i }) (w i) (m .marks i)) ∙ sym (forwardOf-passed c (tables es vs ds) x t work marks p)

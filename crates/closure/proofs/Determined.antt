@@ -1,0 +1,57 @@
+-- Document 01's relations leave a trace call one answer.
+use Prim.Native.Nat.{ℕ}
+use native.Mathlib.Decide.{ℕ-discrete}
+use mathlib.Core.Path.{_≡_, sym, _∙_, subst}
+use mathlib.Core.List.{List}
+use Rattle.rows.specs.declared.Counts.{Counts}
+use Rattle.rules.specs.Trail.{Tables, trailOf}
+use Rattle.rules.specs.Start.{IsIntake}
+use Rattle.rules.specs.Backward.{BackwardMarks, BackwardTrace}
+use Rattle.rules.specs.Forward.{ForwardMarks, ForwardTrace}
+use Rattle.rules.proofs.Start.{start-one}
+use Rattle.rules.proofs.Intake.{intake-one}
+use Rattle.closure.specs.ByRelations.{Marking, BackwardTraced, ForwardTraced, IsBackwardTrace, IsForwardTrace}
+use Rattle.closure.proofs.Marking.{marking-one}
+
+module _ (c : Counts) (t : Tables) (x time : ℕ) (work marks : List ℕ) where
+  module _ (a b : BackwardTrace) (p : IsBackwardTrace c t x time work marks a) (q : IsBackwardTrace c t x time work marks b) where
+    backward-number : a .answer .refusal ≡ b .answer .refusal
+    backward-number = p .refusal ∙ sym (q .refusal)
+
+    backward-traced-one : BackwardTraced (trailOf c t) x time work marks a → BackwardTraced (trailOf c t) x time work marks b → a ≡ b
+    backward-traced-one f g =
+        let m = subst (λ s. Marking (trailOf c t) (BackwardMarks (trailOf c t) s time) work marks (a .work) (a .marks) (a .answer .count)) (start-one (f .is-start) (g .is-start)) (f .marking) in
+        let e = marking-one m (g .marking) in
+        λ i. record { answer = record { refusal = backward-number i; count = e .2 i }; work = e .0 i; marks = e .1 i }
+
+    pub backward-one : a ≡ b
+    backward-one = go (ℕ-discrete (a .answer .refusal) 0)
+      where
+        go : Dec (a .answer .refusal ≡ 0) → a ≡ b
+        go (yes z) = backward-traced-one (p .traced z) (q .traced (sym backward-number ∙ z))
+        go (no z) =
+            p .refused z
+            ∙ (λ i. record { answer = record { refusal = backward-number i; count = 0 }; work = work; marks = marks })
+            ∙ sym (q .refused (λ y. z (backward-number ∙ y)))
+
+  module _ (a b : ForwardTrace) (p : IsForwardTrace c t x time work marks a) (q : IsForwardTrace c t x time work marks b) where
+    forward-number : a .answer .refusal ≡ b .answer .refusal
+    forward-number = p .refusal ∙ sym (q .refusal)
+
+    forward-traced-one : ForwardTraced (trailOf c t) x time work marks a → ForwardTraced (trailOf c t) x time work marks b → a ≡ b
+    forward-traced-one f g =
+        let s = start-one (f .is-start) (g .is-start) in
+        let m = subst (λ z. Marking (trailOf c t) (ForwardMarks (trailOf c t) z) work marks (a .work) (a .marks) (a .answer .count)) s (f .marking) in
+        let e = marking-one m (g .marking) in
+        let j = intake-one (trailOf c t) (g .start) time (subst (λ z. IsIntake (trailOf c t) z time (a .answer .intake)) s (f .intake)) (g .intake) in
+        λ i. record { answer = record { refusal = forward-number i; count = e .2 i; intake = j i }; work = e .0 i; marks = e .1 i }
+
+    pub forward-one : a ≡ b
+    forward-one = go (ℕ-discrete (a .answer .refusal) 0)
+      where
+        go : Dec (a .answer .refusal ≡ 0) → a ≡ b
+        go (yes z) = forward-traced-one (p .traced z) (q .traced (sym forward-number ∙ z))
+        go (no z) =
+            p .refused z
+            ∙ (λ i. record { answer = record { refusal = forward-number i; count = 0; intake = 0 }; work = work; marks = marks })
+            ∙ sym (q .refused (λ y. z (forward-number ∙ y)))
