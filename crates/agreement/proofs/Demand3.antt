@@ -1,193 +1,93 @@
--- Demand 3: every trace that a list of calls leads to agrees with the full list.
+-- Demand 3: every trace that a list of calls leads to agrees with the full list. What the trace theorem says of document 01's
+-- relations is said of the buffers, since the calls are those of the relations.
 use Prim.Native.Nat.{ℕ, _<_}
 use native.Mathlib.Omega.{arith}
-use mathlib.Core.Path.{_≡_, refl, sym, _∙_, ap, subst}
-use mathlib.Core.Logic.{_⊎_, inl, inr, _↔_, Iff·trans}
-use mathlib.Core.Bool.{Bool, true, false, cond}
+use mathlib.Core.Path.{_≡_, refl, sym, _∙_, subst}
+use mathlib.Core.Logic.{_⊎_, _↔_, Iff·trans}
+use mathlib.Core.Bool.{true}
 use mathlib.Core.List.{List}
-use lib.ListN.{length, getD, drop, List·getD-append}
-use lib.Seq.{take-at}
-use lib.Dec.{leb, ltb}
-use borrow.Author.Tests.{leb-false}
-use Rattle.refusals.specs.declared.Checked.{Checked}
-use Rattle.refusals.specs.declared.Checked.the-variants.{Passed, Refused}
 use Rattle.refusals.specs.declared.Refusal.the-variants.{Undeclared, BufferShort}
-use Rattle.refusals.specs.Refusals.{firstOf, numberOf}
+use Rattle.refusals.specs.Refusals.{refusalNo}
 use Rattle.rows.specs.declared.Counts.{Counts}
 use Rattle.record.specs.declared.Record.{Record}
 use Rattle.rules.specs.Trail.{Tables, capacityOf, Trail, trailOf}
 use Rattle.rules.specs.Sound.{isSound}
+use Rattle.rules.specs.History.{IntakeTime}
 use Rattle.rules.specs.PlainList.{worked, itemsOf}
-use Rattle.rules.specs.Paths.{PathBy, PathAfter}
-use Rattle.rules.specs.History.{accepted, Reached, IntakeTime}
-use Rattle.rules.specs.Start.{startOf}
-use Rattle.rules.specs.Marks.{ones, overlaid}
-use Rattle.rules.specs.Backward.{backwardWork, backwardEntities, traceChecks, BackwardTrace, backwardOf}
-use Rattle.rules.specs.Forward.{forwardWork, forwardEntities, forwardIntake, ForwardTrace, forwardOf}
-use Rattle.rules.specs.Calls.{heldAfter, plainAfter}
-use Rattle.closure.specs.Arcs.{Marked, Bits}
-use Rattle.closure.proofs.Start.{start-in}
-use Rattle.closure.proofs.StartVersion.{startOf-is}
-use Rattle.closure.proofs.Forward.{forwardMarks-in}
-use Rattle.closure.proofs.Traces.{backward-marks, forward-marks, length-backwardEntities, length-forwardEntities, bits-backwardEntities, bits-forwardEntities}
+use Rattle.rules.specs.Backward.{BackwardTrace, backwardOf}
+use Rattle.rules.specs.Forward.{ForwardTrace, forwardOf}
+use Rattle.rules.specs.Calls.{Call, heldAfter, Lent, AllLent, plainAfter}
+use Rattle.rules.proofs.Intake.{intakeOf-is, intake-one}
+use Rattle.closure.specs.ByRelations.{CountOf, HasMarkedVersion, Marking, BackwardTraced, ForwardTraced}
+use Rattle.closure.proofs.Traces.{passed-entity}
+use Rattle.closure.proofs.Checked.{number-passed, number-sound}
+use Rattle.closure.proofs.ByRelations.{traces-by-relations}
 use Rattle.causality.proofs.Theorem.{claims}
-use Rattle.agreement.specs.Demand3.{RefusedRightly, Counted, BackwardAgrees, ForwardAgrees, Demand3}
+use Rattle.agreement.specs.Demand3.{MarksAre, BackwardAgrees, ForwardAgrees, TraceAgrees, Agrees, Demand3}
 use Rattle.agreement.proofs.Plain.{Fine, taken-fine}
 use Rattle.agreement.proofs.Matching.{Matches, matches, lent-sound}
 use Rattle.agreement.proofs.Held.{marked-some, Known, known}
+use Rattle.agreement.proofs.Left.{left-by}
 
--- The checks of a trace, where the tables are sound
+-- of the same numbers there are as many
+countOf-iff : {M N : ℕ → Type 0} {n : ℕ} → ((x : ℕ) → M x ↔ N x) → CountOf M n → CountOf N n
+countOf-iff h r = record { list = r .list; once = r .once; has = λ x. Iff·trans (r .has x) (h x); count-is = r .count-is }
 
-data TraceChecked (c : Counts) (x : ℕ) : Checked → Type 0 where
-  passed : x < c .entities → TraceChecked c x Passed
-  undeclared : TraceChecked c x (Refused Undeclared)
-  short : TraceChecked c x (Refused BufferShort)
+-- the number that a trace over sound tables returns
+abbrev Rightly : ℕ → Type 0
+Rightly n = (n ≡ 0) ⊎ ((n ≡ refusalNo Undeclared) ⊎ (n ≡ refusalNo BufferShort))
 
-trace-checked : (c : Counts) (t : Tables) (x : ℕ) (work marks : List ℕ) → isSound (capacityOf t) (trailOf c t) ≡ true
-    → TraceChecked c x (firstOf (traceChecks c t x work marks))
-unfolding traceChecks firstOf
-trace-checked c t x work marks s = rw s (go (leb (c .entities) x) refl (ltb (length work) (c .versions)) (ltb (length marks) (c .entities)))
-  where
-    go : (a : Bool) → leb (c .entities) x ≡ a → (b d : Bool) → TraceChecked c x (cond a (Refused Undeclared) (cond b (Refused BufferShort) (cond d (Refused BufferShort) Passed)))
-    go true q b d = undeclared
-    go false q true d = short
-    go false q false true = short
-    go false q false false = passed (leb-false _ _ q)
+module _ (c : Counts) (t : Tables) (rs : List Record) (k : Known (trailOf c t) (worked rs .counts .entities) (itemsOf rs)) where
+  abbrev T : Trail
+  T = trailOf c t
 
-rightly : {c : Counts} {x : ℕ} {k : Checked} → TraceChecked c x k → RefusedRightly (numberOf k)
-rightly (passed l) = inl refl
-rightly undeclared = inr (inl refl)
-rightly short = inr (inr refl)
+  module _ {M P : ℕ → Type 0} {work marks work′ marks′ : List ℕ} {n : ℕ} (g : Marking T M work marks work′ marks′ n) (h : (x : ℕ) → HasMarkedVersion T M x ↔ P x) where
+    in-plain : {x : ℕ} → x < c .entities → x < worked rs .counts .entities
+    in-plain l = omega (arith, k .entities)
 
--- A mark buffer with marks of n entities laid over it
+    marks-are : MarksAre (worked rs .counts .entities) P marks′ n
+    marks-are = record {
+      bits = λ x l. g .entities .bits x (omega (arith, k .entities));
+      marked = λ x l. Iff·trans (g .entities .marked x (omega (arith, k .entities))) (h x);
+      counted = countOf-iff (λ x. (λ z. (in-plain (g .entities .inside x z), h x .0 z), λ z. h x .1 (z .1))) (g .counted);
+    }
 
-module _ (n : ℕ) (m marks : List ℕ) (l : length m ≡ n) where
-  overlaid-at : (x : ℕ) → x < n → getD (overlaid m marks) x 0 ≡ getD m x 0
-  overlaid-at x h = List·getD-append m (drop (length m) marks) 0 x (omega arith)
+  module _ (x time : ℕ) (work marks : List ℕ) (i : x < c .entities) where
+    backward-agrees : {b : BackwardTrace} → BackwardTraced T x time work marks b → BackwardAgrees rs x time b
+    backward-agrees z = marks-are (z .marking) (λ y. Iff·trans marked-some (k .document01 .backward x time (z .start) y i (z .is-start)))
 
-  counted : Bits m → Counted n (overlaid m marks) (ones m)
-  counted b = record {
-    bits = λ x h. subst (λ (y : ℕ). (y ≡ 0) ⊎ (y ≡ 1)) (sym (overlaid-at x h)) (b x);
-    count-is = ap ones (sym (take-at m (drop (length m) marks) n l));
-  }
+    forward-agrees : {f : ForwardTrace} → ForwardTraced T x time work marks f → ForwardAgrees rs x time f
+    forward-agrees z = record {
+      marks = marks-are (z .marking) (λ y. Iff·trans marked-some (k .document01 .forward x time (z .start) y i (z .is-start)));
+      intake = subst (IntakeTime x time (itemsOf rs)) (intake-one T (z .start) time (intakeOf-is T (z .start) time) (z .intake)) (k .document01 .intake x time (z .start) i (z .is-start));
+      never-less = λ y p.
+          let e = marked-some .1 (k .document01 .never-less x time (z .start) y i (z .is-start) p) in
+          let l = z .marking .entities .inside y e in
+          (omega (arith, k .entities), z .marking .entities .marked y l .1 e);
+    }
 
-  marked-iff : {P : ℕ → Type 0} → ((x : ℕ) → x < n → getD m x 0 ≡ 1 ↔ P x) → (x : ℕ) → x < n → Marked (overlaid m marks) x ↔ P x
-  marked-iff h x i = (λ q. h x i .0 (sym (overlaid-at x i) ∙ q), λ p. overlaid-at x i ∙ h x i .1 p)
-
--- The answers over known tables
-
-module _ (U : Trail) (rs : List Record) (k : Known U (worked rs .counts .entities) (itemsOf rs)) where
-  abbrev n : ℕ
-  n = worked rs .counts .entities
-
-  back-iff : (v t : ℕ) → v < U .counts .entities → (x : ℕ) → x < n → getD (backwardEntities U v t) x 0 ≡ 1 ↔ PathBy (accepted (itemsOf rs)) t x v
-  back-iff v t h x i =
-      Iff·trans (backward-marks U (k .rows) v t x h (omega (arith, k .entities)))
-      (Iff·trans marked-some (k .document01 .backward v t (startOf U v t) x h (startOf-is U (k .rows) (k .few) v t h)))
-
-  forth-iff : (u t : ℕ) → u < U .counts .entities → (x : ℕ) → x < n → getD (forwardEntities U u t) x 0 ≡ 1 ↔ Reached u t (itemsOf rs) x
-  forth-iff u t h x i =
-      Iff·trans (forward-marks U (k .rows) u t x h (omega (arith, k .entities)))
-      (Iff·trans marked-some (k .document01 .forward u t (startOf U u t) x h (startOf-is U (k .rows) (k .few) u t h)))
-
-  intake-is : (u t : ℕ) → u < U .counts .entities → IntakeTime u t (itemsOf rs) (forwardIntake U u t)
-  unfolding forwardIntake
-  intake-is u t h = k .document01 .intake u t (startOf U u t) h (startOf-is U (k .rows) (k .few) u t h)
-
-  never-less : (u t : ℕ) → u < U .counts .entities → (y : ℕ) → PathAfter (accepted (itemsOf rs)) t u y → (y < n) × (getD (forwardEntities U u t) y 0 ≡ 1)
-  never-less u t h y p =
-      let z = k .document01 .never-less u t (startOf U u t) y h (startOf-is U (k .rows) (k .few) u t h) p in
-      let w = forwardMarks-in U (startOf U u t) (k .rows) (start-in U (k .rows) u t h) (z .marked) in
-      let o = k .rows .version (z .version) w .owner-in in
-      let i : y < U .counts .entities = omega (arith, z .owner) in
-      (omega (arith, k .entities), forward-marks U (k .rows) u t y h i .1 (z .version, z .marked, z .owner))
-
--- The calls: refused with 5 or 14, or in agreement
-
-module _ (c : Counts) (t : Tables) (v time : ℕ) (work marks : List ℕ) where
-  abbrev checkedOf : Checked
-  checkedOf = firstOf (traceChecks c t v work marks)
-
-  backward-answered : BackwardTrace
-  backward-answered = record {
-    answer = record { refusal = 0; count = ones (backwardEntities (trailOf c t) v time) };
-    work = overlaid (backwardWork (trailOf c t) v time) work;
-    marks = overlaid (backwardEntities (trailOf c t) v time) marks;
-  }
-
-  backward-passed : checkedOf ≡ Passed → backwardOf c t v time work marks ≡ backward-answered
-  unfolding backwardOf backward-answered
-  backward-passed h = rw h
-
-  backward-number : backwardOf c t v time work marks .answer .refusal ≡ numberOf checkedOf
-  unfolding backwardOf
-  backward-number = go checkedOf refl
-    where
-      go : (x : Checked) → checkedOf ≡ x → backwardOf c t v time work marks .answer .refusal ≡ numberOf x
-      go Passed h = rw h
-      go (Refused r) h = rw h
-
-  forward-answered : ForwardTrace
-  forward-answered = record {
-    answer = record { refusal = 0; count = ones (forwardEntities (trailOf c t) v time); intake = forwardIntake (trailOf c t) v time };
-    work = overlaid (forwardWork (trailOf c t) v time) work;
-    marks = overlaid (forwardEntities (trailOf c t) v time) marks;
-  }
-
-  forward-passed : checkedOf ≡ Passed → forwardOf c t v time work marks ≡ forward-answered
-  unfolding forwardOf forward-answered
-  forward-passed h = rw h
-
-  forward-number : forwardOf c t v time work marks .answer .refusal ≡ numberOf checkedOf
-  unfolding forwardOf
-  forward-number = go checkedOf refl
-    where
-      go : (x : Checked) → checkedOf ≡ x → forwardOf c t v time work marks .answer .refusal ≡ numberOf x
-      go Passed h = rw h
-      go (Refused r) h = rw h
-
-  -- a trace that is not refused passed its checks
-  not-refused : (k : Checked) → TraceChecked c v k → numberOf k ≡ 0 → (k ≡ Passed) × (v < c .entities)
-  not-refused k (passed l) q = (refl, l)
-  not-refused k undeclared q = absurd (omega arith)
-  not-refused k short q = absurd (omega arith)
-
-  module _ (rs : List Record) (k : Known (trailOf c t) (worked rs .counts .entities) (itemsOf rs)) where
-    backward-agrees : v < c .entities → BackwardAgrees rs v time backward-answered
-    unfolding backward-answered
-    backward-agrees h =
-        let l : length (backwardEntities (trailOf c t) v time) ≡ worked rs .counts .entities = length-backwardEntities (trailOf c t) v time ∙ sym (k .entities) in
+  module _ (s : isSound (capacityOf t) T ≡ true) (x time : ℕ) (work marks : List ℕ) where
+    backward-answer : TraceAgrees (backwardOf c t x time work marks .answer .refusal) (BackwardAgrees rs x time (backwardOf c t x time work marks))
+    backward-answer =
+        let r = traces-by-relations .backward c t x time work marks _ .0 refl in
         record {
-          marked = marked-iff _ (backwardEntities (trailOf c t) v time) marks l (back-iff (trailOf c t) rs k v time h);
-          counted = counted _ (backwardEntities (trailOf c t) v time) marks l (bits-backwardEntities (trailOf c t) v time);
+          refusal = subst Rightly (sym (r .refusal)) (number-sound c t x work marks s);
+          agrees = λ q. backward-agrees x time work marks (passed-entity c t x work marks (number-passed c t x work marks (sym (r .refusal) ∙ q))) (r .traced q);
         }
 
-    forward-agrees : v < c .entities → ForwardAgrees rs v time forward-answered
-    unfolding forward-answered
-    forward-agrees h =
-        let l : length (forwardEntities (trailOf c t) v time) ≡ worked rs .counts .entities = length-forwardEntities (trailOf c t) v time ∙ sym (k .entities) in
+    forward-answer : TraceAgrees (forwardOf c t x time work marks .answer .refusal) (ForwardAgrees rs x time (forwardOf c t x time work marks))
+    forward-answer =
+        let r = traces-by-relations .forward c t x time work marks _ .0 refl in
         record {
-          marked = marked-iff _ (forwardEntities (trailOf c t) v time) marks l (forth-iff (trailOf c t) rs k v time h);
-          intake = intake-is (trailOf c t) rs k v time h;
-          counted = counted _ (forwardEntities (trailOf c t) v time) marks l (bits-forwardEntities (trailOf c t) v time);
-          never-less = λ y p. let z = never-less (trailOf c t) rs k v time h y p in overlaid-at _ (forwardEntities (trailOf c t) v time) marks l y (z .0) ∙ z .1;
+          refusal = subst Rightly (sym (r .refusal)) (number-sound c t x work marks s);
+          agrees = λ q. forward-agrees x time work marks (passed-entity c t x work marks (number-passed c t x work marks (sym (r .refusal) ∙ q))) (r .traced q);
         }
 
-pub demand3 : Demand3
-demand3 cs a = record {
-  sound = λ t l. lent-sound _ _ m t l;
-  backward-refusal = λ t l v time work marks.
-      subst RefusedRightly (sym (backward-number _ t v time work marks)) (rightly (trace-checked _ t v work marks (lent-sound _ _ m t l)));
-  backward = λ t l v time work marks q.
-      let p = not-refused c t v time work marks _ (trace-checked c t v work marks (lent-sound _ _ m t l)) (sym (backward-number c t v time work marks) ∙ q) in
-      subst (BackwardAgrees (plainAfter cs) v time) (sym (backward-passed c t v time work marks (p .0)))
-      (backward-agrees c t v time work marks (plainAfter cs) (known _ _ m t l) (p .1));
-  forward-refusal = λ t l u time work marks.
-      subst RefusedRightly (sym (forward-number _ t u time work marks)) (rightly (trace-checked _ t u work marks (lent-sound _ _ m t l)));
-  forward = λ t l u time work marks q.
-      let p = not-refused c t u time work marks _ (trace-checked c t u work marks (lent-sound _ _ m t l)) (sym (forward-number c t u time work marks) ∙ q) in
-      subst (ForwardAgrees (plainAfter cs) u time) (sym (forward-passed c t u time work marks (p .0)))
-      (forward-agrees c t u time work marks (plainAfter cs) (known _ _ m t l) (p .1));
+held-agrees : (cs : List Call) → AllLent cs → (t : Tables) → Lent (heldAfter cs) t → Agrees (plainAfter cs) (heldAfter cs .counts) t
+held-agrees cs a t l = record {
+  sound = s;
+  backward = backward-answer c t (plainAfter cs) (known _ _ m t l) s;
+  forward = forward-answer c t (plainAfter cs) (known _ _ m t l) s;
   gains = claims .document01 (f .grown) (f .falling) .gain;
   versions = omega (arith, claims .any-working (f .grown) .versions, m .alike .rows .entities, m .alike .rows .versions, m .alike .rows .edges);
 }
@@ -195,8 +95,14 @@ demand3 cs a = record {
     m : Matches (heldAfter cs) (plainAfter cs)
     m = matches cs a
 
+    c : Counts
+    c = heldAfter cs .counts
+
+    s : isSound (capacityOf t) (trailOf c t) ≡ true
+    s = lent-sound _ _ m t l
+
     f : Fine (worked (plainAfter cs)) (itemsOf (plainAfter cs))
     f = taken-fine (m .taken)
 
-    c : Counts
-    c = heldAfter cs .counts
+pub demand3 : Demand3
+demand3 cs c t l = left-by (λ k. Agrees (plainAfter cs) k t) l (held-agrees cs (l .lent) t (l .rows))

@@ -7,6 +7,8 @@ pub mod Plain
 -- The list of calls, and demand 3
 pub mod Matching
 pub mod Held
+pub mod Left
+pub mod Demand2
 pub mod Demand3
 -- The kept log taken in again
 pub mod KeptOnly
@@ -21,3 +23,5 @@ pub mod Times
 pub mod TakenAll
 pub mod Log
 pub mod RoundTrip
+-- What the public calls carry
+pub mod Promises

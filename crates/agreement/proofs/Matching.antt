@@ -87,6 +87,9 @@ pub record Ready (cap : Capacity) (c : Counts) (t : Tables) (rs : List Record) :
   pub sound : isSound (capacityOf t) (trailOf c t) ≡ true
   pub capacity : capacityOf t ≡ cap
 
+pub lent-ready : (h : Held) (rs : List Record) → Matches h rs → (t : Tables) → Lent h t → Ready (capacityOf t) (h .counts) t rs
+lent-ready h rs m t l = record { taken = m .taken; alike = lent-alike h rs m t l; sound = lent-sound h rs m t l; capacity = refl }
+
 module _ (cap : Capacity) (w : Within cap) where
   module _ (c : Counts) (t : Tables) (rs : List Record) (y : Ready cap c t rs) (r : Record) where
     -- the record is refused alike over the tables and over the plain list
@@ -150,10 +153,7 @@ matches [] a = record {
   };
 }
 matches (batch t file ∷ cs) a =
-    let m = matches cs (a .1) in
-    let y : Ready (capacityOf t) (heldAfter cs .counts) t (plainAfter cs)
-    = record { taken = m .taken; alike = lent-alike _ _ m t (a .0); sound = lent-sound _ _ m t (a .0); capacity = refl } in
-    let z = batch-ready (capacityOf t) (capacity-within t) _ _ _ y file in
+    let z = batch-ready (capacityOf t) (capacity-within t) _ _ _ (lent-ready _ _ (matches cs (a .1)) t (a .0)) file in
     record { taken = z .taken; alike = z .alike }
 matches (backward t v time work marks ∷ cs) a = let m = matches cs (a .1) in record { taken = m .taken; alike = lent-alike _ _ m t (a .0) }
 matches (forward t u time work marks ∷ cs) a = let m = matches cs (a .1) in record { taken = m .taken; alike = lent-alike _ _ m t (a .0) }

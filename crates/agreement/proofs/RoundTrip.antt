@@ -12,11 +12,9 @@ use Rattle.refusals.specs.declared.Checked.the-variants.{Passed, Refused}
 use Rattle.refusals.specs.Refusals.{firstOf, numberOf}
 use Rattle.rows.specs.declared.Counts.{Counts}
 use Rattle.rows.specs.declared.EntityRow.{EntityRow}
-use Rattle.rows.specs.Capacity.{entityCapacity, versionCapacity, edgeCapacity}
 use Rattle.record.specs.declared.Event.{Event}
 use Rattle.record.specs.declared.Record.{Record}
 use Rattle.record.specs.Header.{headerChecks}
-use Rattle.rules.specs.declared.LogAnswer.{LogAnswer}
 use Rattle.rules.specs.Trail.{Tables, capacityOf, Trail, trailOf, freshCounts}
 use Rattle.rules.specs.Sound.{isSound}
 use Rattle.rules.specs.PlainList.{worked, itemsOf}
@@ -24,7 +22,7 @@ use Rattle.rules.specs.History.{keptEvents}
 use Rattle.rules.specs.Batch.{ifRefused, contentsOf, batchOf}
 use Rattle.rules.specs.Marks.{overlaid}
 use Rattle.rules.specs.KeptLog.{KeptLog, logBytes, logChecks, keptLog, keptLogOf}
-use Rattle.rules.specs.Calls.{Held, held, heldAfter, Lent, plainAfter}
+use Rattle.rules.specs.Calls.{Call, Held, held, heldAfter, Lent, AllLent, plainAfter}
 use Rattle.soundness.specs.Facts.{CountFacts}
 use Rattle.soundness.proofs.Facts.{sound-counts}
 use Rattle.soundness.proofs.Tests.{sort-low}
@@ -32,9 +30,10 @@ use Rattle.causality.specs.Statements.{Logged}
 use Rattle.kept_log.specs.LogRecords.{logRecords, wholly}
 use Rattle.kept_log.proofs.LogRecords.{length-logRecords}
 use Rattle.kept_log.proofs.ReadBack.{log-taken-header, log-taken-contents}
-use Rattle.agreement.specs.RoundTrip.{EnoughRows, SameTrail, TakenAgain, RoundTrip}
+use Rattle.agreement.specs.RoundTrip.{AllBytes, EnoughRows, SameTrail, TakenAgain, LogTakenAgain, RoundTrip}
 use Rattle.agreement.proofs.Matching.{Matches, matches, lent-alike, lent-rows, lent-sound, Ready, capacity-within}
 use Rattle.agreement.proofs.Held.{Known, known}
+use Rattle.agreement.proofs.Left.{own-lent, left-by}
 use Rattle.agreement.proofs.KeptOnly.{allKept, keptEvents-allKept}
 use Rattle.agreement.proofs.Relogged.{relogged}
 use Rattle.agreement.proofs.Again.{Before, Regrown, regrown}
@@ -43,18 +42,6 @@ use Rattle.agreement.proofs.SameCalls.{same-calls}
 use Rattle.agreement.proofs.Times.{last-small}
 use Rattle.agreement.proofs.TakenAll.{batch-all, batch-answer}
 use Rattle.agreement.proofs.Log.{events-same, logRecords-reverse}
-
--- the counts and rows that stand in tables are lent with them
-own-lent : (c : Counts) (t : Tables) → CountFacts (capacityOf t) c → Lent (held c t) t
-unfolding entityCapacity versionCapacity edgeCapacity
-own-lent c t f = record {
-  entity-room = omega (arith, f .entities-in);
-  version-room = omega (arith, f .versions-in);
-  edge-room = omega (arith, f .edges-in);
-  entity-rows = λ k l. refl;
-  version-rows = λ k l. refl;
-  edge-rows = λ k l. refl;
-}
 
 -- a writer that refuses nothing passed its checks
 abbrev short : Bool → Checked
@@ -143,10 +130,14 @@ module _ (h : Held) (rs : List Record) (m : Matches h rs) (t : Tables) (l : Lent
           calls = same-calls _ t _ _ (same-trail _ _ y) (lent-sound h rs m t l) (y .sound);
         }
 
-pub round-trip : RoundTrip
-round-trip cs a b t l out q lent room =
+held-trip : (cs : List Call) → AllLent cs → AllBytes cs → (t : Tables) → Lent (heldAfter cs) t → (out : List ℕ)
+    → LogTakenAgain (heldAfter cs .counts) t (keptLogOf (heldAfter cs .counts) t out)
+held-trip cs a b t l out q lent room =
     let m = matches cs a in
     let c = heldAfter cs .counts in
     let p = log-passed c t out (lent-sound _ _ m t l) q in
     let small : c .last < 4294967296 = omega (arith, last-small cs b, ap (λ (k : Counts). k .last) (m .alike .counts)) in
     taken-again (heldAfter cs) (plainAfter cs) m t l lent room _ (log-taken-header c t out p) (log-taken-contents c t out p small)
+
+pub round-trip : RoundTrip
+round-trip cs c t l b out = left-by (λ k. LogTakenAgain k t (keptLogOf k t out)) l (held-trip cs (l .lent) b t (l .rows) out)

@@ -26,13 +26,13 @@ pub record Holds (rs : List Record) (c : Counts) (t : Tables) : Type 0 where
   pub edges : c .edges ≡ length (keptEvents (itemsOf rs))
   pub kept : Logged (trailOf c t) (keptEvents (itemsOf rs))
 
--- the plain list rs became rs′ by the first n records of the file, in order
-pub record GrownBy (n : ℕ) (file : List ℕ) (rs rs′ : List Record) : Type 0 where
-  pub among : n ≤ length (contentsOf file .records)
-  pub grown : rs′ ≡ reverse (take n (contentsOf file .records)) ++ rs
+-- the plain list rs became rs′ by the first n of the records more, in order
+pub record GrownBy (n : ℕ) (more rs rs′ : List Record) : Type 0 where
+  pub among : n ≤ length more
+  pub grown : rs′ ≡ reverse (take n more) ++ rs
 
 pub record Demand2 : Type 0 where
   pub holds : (cs : List Call) (c : Counts) (t : Tables) → LeftBy cs c t → Holds (plainAfter cs) c t
   -- "A batch returns .. how many records it took in; the tables show those records."
   pub taken : (cs : List Call) (c : Counts) (t : Tables) → LeftBy cs c t → (file : List ℕ)
-      → GrownBy (batchOf c t file .answer .taken) file (plainAfter cs) (plainAfter (batch t file ∷ cs))
+      → GrownBy (batchOf c t file .answer .taken) (contentsOf file .records) (plainAfter cs) (plainAfter (batch t file ∷ cs))

@@ -5,7 +5,7 @@ use mathlib.Core.Path.{_≡_}
 use mathlib.Core.List.{List, _∷_}
 use Rattle.rows.specs.declared.Counts.{Counts}
 use Rattle.rules.specs.Trail.{Tables}
-use Rattle.rules.specs.Batch.{Batched}
+use Rattle.rules.specs.Batch.{contentsOf, Batched}
 use Rattle.rules.specs.Backward.{BackwardTrace}
 use Rattle.rules.specs.Forward.{ForwardTrace}
 use Rattle.rules.specs.KeptLog.{KeptLog}
@@ -20,7 +20,7 @@ use Rattle.agreement.specs.RoundTrip.{AllBytes, LogTakenAgain}
 -- after the calls cs: the list with this batch leaves what the batch left, and that holds the records taken in and agrees with them
 pub record BatchAfter (cs : List Call) (t : Tables) (file : List ℕ) (b : Batched) : Type 0 where
   pub left : LeftBy (batch t file ∷ cs) (b .counts) (b .tables)
-  pub taken : GrownBy (b .answer .taken) file (plainAfter cs) (plainAfter (batch t file ∷ cs))
+  pub taken : GrownBy (b .answer .taken) (contentsOf file .records) (plainAfter cs) (plainAfter (batch t file ∷ cs))
   pub holds : Holds (plainAfter (batch t file ∷ cs)) (b .counts) (b .tables)
   pub agrees : Agrees (plainAfter (batch t file ∷ cs)) (b .counts) (b .tables)
 
