@@ -1,5 +1,6 @@
 // The public calls of the trail, with C names. The caller lends the counts, the tables and the buffers, and each call
-// leaves in them what a definition of document 01 makes of what was lent, where it refuses too.
+// leaves in them what a definition of document 01 makes of what was lent, where it refuses too. Beside that equation each
+// promise carries the claims of demands 2 and 3 for every list of calls that leaves what it was lent.
 use rows::Counts;
 use rules::BackwardAnswer;
 use rules::BatchAnswer;
@@ -11,6 +12,7 @@ ghost use Rattle.rules.specs.Batch.{left, batchOf};
 ghost use Rattle.rules.specs.Backward.{backwardTrace, backwardOf};
 ghost use Rattle.rules.specs.Forward.{forwardTrace, forwardOf};
 ghost use Rattle.rules.specs.KeptLog.{keptLog, keptLogOf};
+ghost use Rattle.agreement.specs.Promises.{BatchPromise, BackwardPromise, ForwardPromise, LogPromise};
 
 // Takes the records of a file in, in order until the first one refused, and updates the counts where the caller keeps them.
 // It needs 1.6 MB of stack.
@@ -22,7 +24,10 @@ pub extern "C" fn slt_batch(
     edges: &mut [u32],
     file: &[u8],
 ) -> BatchAnswer
-    ensures { λ r. ⌜ left r (now (counts .exit)) (tables (now (entities .exit)) (now (versions .exit)) (now (edges .exit))) ≡ batchOf (now (counts .entry)) (tables (now (entities .entry)) (now (versions .entry)) (now (edges .entry))) (now (file .entry)) ⌝ }
+    ensures { λ r. ⌜ (left r (now (counts .exit)) (tables (now (entities .exit)) (now (versions .exit)) (now (edges .exit)))
+        ≡ batchOf (now (counts .entry)) (tables (now (entities .entry)) (now (versions .entry)) (now (edges .entry))) (now (file .entry)))
+        × BatchPromise (now (counts .entry)) (tables (now (entities .entry)) (now (versions .entry)) (now (edges .entry))) (now (file .entry))
+        (left r (now (counts .exit)) (tables (now (entities .exit)) (now (versions .exit)) (now (edges .exit)))) ⌝ }
 {
     let b = growth::batch(*counts, entities, versions, edges, file);
     *counts = b.counts;
@@ -41,7 +46,11 @@ pub extern "C" fn slt_backward(
     work: &mut [u8],
     marks: &mut [u8],
 ) -> BackwardAnswer
-    ensures { λ r. ⌜ backwardTrace r (now (work .exit)) (now (marks .exit)) ≡ backwardOf counts (tables (now (entities .entry)) (now (versions .entry)) (now (edges .entry))) entity time (now (work .entry)) (now (marks .entry)) ⌝ }
+    ensures { λ r. ⌜ backwardTrace r (now (work .exit)) (now (marks .exit))
+        ≡ backwardOf counts (tables (now (entities .entry)) (now (versions .entry)) (now (edges .entry))) entity time
+        (now (work .entry)) (now (marks .entry)) ⌝ }
+    ensures { λ r. ⌜ BackwardPromise counts (tables (now (entities .entry)) (now (versions .entry)) (now (edges .entry))) entity time
+        (now (work .entry)) (now (marks .entry)) (backwardTrace r (now (work .exit)) (now (marks .exit))) ⌝ }
 {
     trace::backward(counts, entities, versions, edges, entity, time, work, marks)
 }
@@ -58,7 +67,11 @@ pub extern "C" fn slt_forward(
     work: &mut [u8],
     marks: &mut [u8],
 ) -> ForwardAnswer
-    ensures { λ r. ⌜ forwardTrace r (now (work .exit)) (now (marks .exit)) ≡ forwardOf counts (tables (now (entities .entry)) (now (versions .entry)) (now (edges .entry))) entity time (now (work .entry)) (now (marks .entry)) ⌝ }
+    ensures { λ r. ⌜ forwardTrace r (now (work .exit)) (now (marks .exit))
+        ≡ forwardOf counts (tables (now (entities .entry)) (now (versions .entry)) (now (edges .entry))) entity time
+        (now (work .entry)) (now (marks .entry)) ⌝ }
+    ensures { λ r. ⌜ ForwardPromise counts (tables (now (entities .entry)) (now (versions .entry)) (now (edges .entry))) entity time
+        (now (work .entry)) (now (marks .entry)) (forwardTrace r (now (work .exit)) (now (marks .exit))) ⌝ }
 {
     trace::forward(counts, entities, versions, edges, entity, time, work, marks)
 }
@@ -72,7 +85,9 @@ pub extern "C" fn slt_kept_log(
     edges: &[u32],
     out: &mut [u8],
 ) -> LogAnswer
-    ensures { λ r. ⌜ keptLog r (now (out .exit)) ≡ keptLogOf counts (tables (now (entities .entry)) (now (versions .entry)) (now (edges .entry))) (now (out .entry)) ⌝ }
+    ensures { λ r. ⌜ keptLog r (now (out .exit))
+        ≡ keptLogOf counts (tables (now (entities .entry)) (now (versions .entry)) (now (edges .entry))) (now (out .entry)) ⌝ }
+    ensures { λ r. ⌜ LogPromise counts (tables (now (entities .entry)) (now (versions .entry)) (now (edges .entry))) (keptLog r (now (out .exit))) ⌝ }
 {
     kept_log::write_log(counts, entities, versions, edges, out)
 }

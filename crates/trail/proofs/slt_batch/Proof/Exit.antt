@@ -25,6 +25,7 @@ use denote.Steps.{owned, nothing}
 use denote.Struct.Laws as structs
 use denote.Triple.Walked.{says, Stays, stay-ref, stay-none-slice, gave-slice, walkOf, ends-at}
 use denote.Exit.{yes}
+use Rattle.agreement.proofs.Promises.{batch-promise}
 use Rattle.rows.specs.declared.Counts.{Counts}
 use Rattle.rules.specs.declared.BatchAnswer.{BatchAnswer}
 use Rattle.rules.proofs.BatchAnswer as answer
@@ -74,7 +75,7 @@ module _ {M : Type 1} (𝓤 : URA M) (H : Heap 𝓤) (A : Atoms 𝓤) (W : Given
         qed W had ∵
         suffices ! _
         (ends-at 𝓤 H A batch.ended stayed (batch.clauses 𝓤 H A mem run) W (((κ, κs), (q, qs), tt, (p, xs), (countsPtr p ∷ [], sliceVals xs)), tt)
-        (answerVal n) n (c, (es, (vs, (ds, (tt, tt))))) (tt, (e₁, (e₂, (e₃, (tt, tt)))))) $ says ! e $
+        (answerVal n) n (c, (es, (vs, (ds, (tt, tt))))) (tt, (e₁, (e₂, (e₃, (tt, tt)))))) $ says ! (e, batch-promise _ _ _ _ e) $
         move ! (2 ∷ 3 ∷ []) $ join ! $ frame ! $ feqI ! (List Val) (countsPtr p ∷ []) (countsPtr p ∷ []) refl $ fjoin3 ! $ nothing ! $
         move ! (5 ∷ 0 ∷ []) $ fjoin ! $ move ! (4 ∷ 0 ∷ []) $ fjoin ! $ move ! (3 ∷ 0 ∷ []) $ fjoin ! $ move ! (2 ∷ 0 ∷ []) $ fjoin ! $ move ! (1 ∷ 0 ∷ []) $ fjoin ! $
         owned ! answer.the-row (Is answer.the-row) (structs.makes answer.the-type answer-laws.the-plain 𝓤 H A) n _ fits $ move ! (1 ∷ 0 ∷ []) $ done !
