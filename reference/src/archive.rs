@@ -6,13 +6,10 @@ use crate::answers::Counts;
 use crate::call::{Answer, Call};
 use crate::tables::Tables;
 use guarded::Guarded;
+pub use guarded::Overrun;
 
 mod guarded;
 pub mod interface;
-
-/// The name of a lent value before or after which the archive wrote.
-#[derive(Clone, Copy, Debug, PartialEq, Eq)]
-pub struct Overrun(pub &'static str);
 
 /// The archive, with the number of calls made so far. Each call gets other
 /// guard values.

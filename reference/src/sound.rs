@@ -3,7 +3,7 @@
 use crate::capacity::MOST_ACCEPTED;
 use crate::record::{Kind, Sort};
 use crate::rows::{EdgeRow, VersionRow, NO_VERSION};
-use crate::tables::TableView;
+use crate::table_view::TableView;
 
 /// What sound tables must hold. Each clause is named by what holds.
 #[derive(Clone, Copy, Debug, PartialEq, Eq)]

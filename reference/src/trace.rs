@@ -4,7 +4,7 @@ use crate::answers::{BackwardAnswer, Counts, ForwardAnswer};
 use crate::refusal;
 use crate::rows::NO_VERSION;
 use crate::sound::is_sound;
-use crate::tables::TableView;
+use crate::table_view::TableView;
 
 /// The backward trace from an entity at a time.
 #[allow(clippy::too_many_arguments)]

@@ -1,6 +1,6 @@
 //! The event file of the worked trail.
 
-use crate::FileBuilder;
+use crate::file_builder::FileBuilder;
 
 /// Its declarations.
 pub fn worked_declarations() -> FileBuilder {

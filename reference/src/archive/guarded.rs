@@ -1,8 +1,11 @@
 //! A copy of a lent slice, cut out of a longer allocation. Guard values stand
 //! before and after it.
 
-use super::Overrun;
 use crate::random::Random;
+
+/// The name of a lent value before or after which the archive wrote.
+#[derive(Clone, Copy, Debug, PartialEq, Eq)]
+pub struct Overrun(pub &'static str);
 
 /// The least number of guard values on each side.
 const LEAST_GUARD: usize = 24;

@@ -1,6 +1,6 @@
 //! Shapes of sound tables that grown tables never have.
 
-use crate::tables::TableView;
+use crate::table_view::TableView;
 use crate::trace::chain;
 
 /// What grown tables never hold.

@@ -1,19 +1,13 @@
 //! One call made by the archive and by the reference.
 
-use crate::difference::{first_difference, Difference};
+use crate::difference::Difference;
+use crate::made::{first_difference, Made};
 use crate::tally::Tally;
 use reference::archive::Archive;
 use reference::{long_batch, Answer, Call, Tables};
 
 /// Longer files go to the reference's batch for long files.
 const LONG_FILE: usize = 20_000;
-
-/// What a call left: its answer, the tables and its own buffers.
-pub struct Made {
-    pub answer: Answer,
-    pub tables: Tables,
-    pub call: Call,
-}
 
 /// Nothing, or the first difference.
 pub type Compared<T = ()> = Result<T, Difference>;

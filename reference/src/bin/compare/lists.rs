@@ -2,8 +2,9 @@
 //! accepted events.
 
 use crate::calls::{times_of, traces, BufferLengths};
-use crate::comparison::{Compared, Comparison, Made};
+use crate::comparison::{Compared, Comparison};
 use crate::difference::{differ, Difference};
+use crate::made::Made;
 use reference::generate::{call_list, lend_anew, LentCall};
 use reference::{Answer, Call, FullList, Random, TableLengths, Tables};
 

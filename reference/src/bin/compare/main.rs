@@ -14,6 +14,7 @@ mod faults;
 mod lengths;
 mod lists;
 mod long_files;
+mod made;
 mod sections;
 mod tables;
 mod tally;
