@@ -7,7 +7,7 @@
  * through the pointer. No call keeps a pointer, allocates memory or touches anything else, and no call fails to return.
  *
  * Link with libtrail.a, which asks of the C library only memset; the calls follow the C calling convention of x86-64 Linux.
- * slt_batch needs 1.6 MB of stack, the other calls 0.14 MB.
+ * SLT_.._STACK below says how much stack each call needs.
  */
 #ifndef TRAIL_H
 #define TRAIL_H
@@ -43,6 +43,16 @@ extern "C" {
 /* An event file has a header of 8 bytes and records of 12. */
 #define SLT_HEADER_LENGTH 8
 #define SLT_RECORD_LENGTH 12
+
+/*
+ * How many bytes of stack a thread needs that only makes the call, whatever it is lent, refused or not. Most of it is local
+ * arrays of a fixed length: 135,168 bytes in each call for the test of the tables, 1,441,792 more in slt_batch for the index
+ * of the edges. Some 16,000 are for what the C library has on the thread's stack; frames and thread-local variables of the
+ * caller come on top. On a thread with less a call ends in a fault at the guard page. c/stack.c makes each call with just this.
+ */
+#define SLT_BATCH_STACK 1600000
+#define SLT_TRACE_STACK 160000
+#define SLT_LOG_STACK 160000
 
 /*
  * How many rows of each table are in use, how many events were accepted, and the time of the last one. All five 0 is a fresh
@@ -112,9 +122,6 @@ typedef struct slt_log_answer {
  * Refused with 16, 1, 2, then at each record with 3, 4; a declaration with 6, 10, 11; an event with 5, 7, 8, 9, 13, 12, 11.
  * Refused with 16, 1 or 2 it takes nothing in and writes nothing. Refused at a record, it leaves the counts and the tables as
  * the records before that one made them, and `taken` says how many they are. Not refused, it has taken all of them in.
- *
- * It needs 1.6 MB of stack, refused or not, for local arrays of a fixed length: 1,441,792 bytes for the index of the edges and
- * 135,168 for the test of the tables. On a thread with less it ends in a fault at the guard page.
  */
 slt_batch_answer slt_batch(
     slt_counts *counts,
