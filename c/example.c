@@ -35,6 +35,7 @@ static uint8_t log_bytes[SLT_HEADER_LENGTH + SLT_RECORD_LENGTH * 2 * ROWS];
 
 #define LENGTH(array) (sizeof(array) / sizeof((array)[0]))
 #define TABLES entities, LENGTH(entities), versions, LENGTH(versions), edges, LENGTH(edges)
+#define NO_TABLES NULL, 0, NULL, 0, NULL, 0
 
 static int wrong;
 
@@ -131,6 +132,17 @@ static void refused_batch(void)
     expect("the counts stay", memcmp(&before, &counts, sizeof before) == 0);
 }
 
+/* Where the length is 0, the pointer may be null: a fresh trail in no tables. */
+static void nothing_lent(void)
+{
+    static const uint8_t header[SLT_HEADER_LENGTH] = { 0x53, 0x4C, 0x54, 1, 0, 0, 0, 0 };
+    slt_counts fresh = { 0, 0, 0, 0, 0 };
+    expect("a header alone is taken in", slt_batch(&fresh, NO_TABLES, header, sizeof header).refusal == SLT_NOT_REFUSED);
+    expect("no entity to trace back", slt_backward(fresh, NO_TABLES, 0, 0, NULL, 0, NULL, 0).refusal == SLT_UNDECLARED);
+    expect("no entity to trace on", slt_forward(fresh, NO_TABLES, 0, 0, NULL, 0, NULL, 0).refusal == SLT_UNDECLARED);
+    expect("no room for a header", slt_kept_log(fresh, NO_TABLES, NULL, 0).refusal == SLT_OUTPUT_SHORT);
+}
+
 int main(void)
 {
     take_in();
@@ -139,5 +151,6 @@ int main(void)
     refused_log();
     refused_batch();
     write_log();
+    nothing_lent();
     return wrong;
 }
