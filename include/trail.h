@@ -2,9 +2,10 @@
  * The trail: it takes event files in, answers backward and forward traces, and writes the kept log.
  *
  * The caller keeps everything: the counts, three tables and the buffers. A slice is passed as a pointer and a length in
- * elements, the pointer aligned for them and valid for that many. A slice that a call writes overlaps nothing else that the
- * call is lent, and nothing else reads or writes it until the call returns. Where the length is 0, nothing is read or written
- * through the pointer. No call keeps a pointer, allocates memory or touches anything else, and no call fails to return.
+ * elements, the pointer aligned for them and valid for that many, each with some value. A slice that a call writes overlaps
+ * nothing else that the call is lent, and nothing else reads or writes it until the call returns; nothing else writes a slice
+ * that it only reads. Where the length is 0, nothing is read or written through the pointer, which may be null. No call keeps a
+ * pointer, allocates memory or touches anything else, and no call fails to return.
  *
  * Link with libtrail.a, which asks of the C library only memset; the calls follow the C calling convention of x86-64 Linux.
  * SLT_.._STACK below says how much stack each call needs.
