@@ -240,7 +240,8 @@ fn edges_ok(c: Counts, owners: &[u16], edges: &[u32]) -> bool
 // The versions, and then the edges by the codes that the pass over the versions writes.
 fn rows_ok(c: Counts, entities: &[u32], versions: &[u32], edges: &[u32], owners: &mut [u16]) -> bool
     requires { ⌜ RowsReady c (tables (now entities) (now versions) (now edges)) (now owners) ⌝ }
-    ensures { λ z. ⌜ z ≡ isSound (capacityOf (tables (now (entities .entry)) (now (versions .entry)) (now (edges .entry)))) (trailOf c (tables (now (entities .entry)) (now (versions .entry)) (now (edges .entry)))) ⌝ }
+    ensures { λ z. ⌜ z ≡ isSound (capacityOf (tables (now (entities .entry)) (now (versions .entry)) (now (edges .entry))))
+        (trailOf c (tables (now (entities .entry)) (now (versions .entry)) (now (edges .entry)))) ⌝ }
 {
     if !versions_ok(c, entities, versions, owners) {
         return false;
@@ -251,7 +252,8 @@ fn rows_ok(c: Counts, entities: &[u32], versions: &[u32], edges: &[u32], owners:
 // Whether the tables are sound. The codes of the versions' entities take 128 KB of stack; for few versions less of it is
 // cleared and used.
 pub fn is_sound(c: Counts, entities: &[u32], versions: &[u32], edges: &[u32]) -> bool
-    ensures { λ z. ⌜ z ≡ isSound (capacityOf (tables (now (entities .entry)) (now (versions .entry)) (now (edges .entry)))) (trailOf c (tables (now (entities .entry)) (now (versions .entry)) (now (edges .entry)))) ⌝ }
+    ensures { λ z. ⌜ z ≡ isSound (capacityOf (tables (now (entities .entry)) (now (versions .entry)) (now (edges .entry))))
+        (trailOf c (tables (now (entities .entry)) (now (versions .entry)) (now (edges .entry)))) ⌝ }
 {
     if !counts_ok(c, entities, versions, edges) {
         return false;

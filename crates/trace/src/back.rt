@@ -104,7 +104,8 @@ fn edge_back(
     k: EdgeNo,
 ) -> bool
     requires { ⌜ k .0 < edgeCapacity (now edges) ⌝ }
-    ensures { λ r. ⌜ Followed (edgeBack (versionAt (now (versions .entry))) (s .0) t (edgeAt (now (edges .entry)) (k .0))) (now (work .entry)) r (now (work .exit)) ⌝ }
+    ensures { λ r. ⌜ Followed (edgeBack (versionAt (now (versions .entry))) (s .0) t (edgeAt (now (edges .entry)) (k .0))) (now (work .entry)) r
+        (now (work .exit)) ⌝ }
 {
     let e = edge_in(edges, k);
     if marked(work, e.to.0) {
@@ -122,7 +123,8 @@ fn edges_back(
     t: u32,
 ) -> bool
     requires { ⌜ d ≤ edgeCapacity (now edges) ⌝ }
-    ensures { λ r. ⌜ Followed (down (λ k. edgeBack (versionAt (now (versions .entry))) (s .0) t (edgeAt (now (edges .entry)) k)) d) (now (work .entry)) r (now (work .exit)) ⌝ }
+    ensures { λ r. ⌜ Followed (down (λ k. edgeBack (versionAt (now (versions .entry))) (s .0) t (edgeAt (now (edges .entry)) k)) d)
+        (now (work .entry)) r (now (work .exit)) ⌝ }
 {
     let mut changed = false;
     let mut k = d;
@@ -168,7 +170,8 @@ fn first_back(
     t: u32,
 ) -> bool
     requires { ⌜ (n ≤ versionCapacity (now versions)) × (d ≤ edgeCapacity (now edges)) ⌝ }
-    ensures { λ r. ⌜ Followed (firstBack (versionAt (now (versions .entry))) (edgeAt (now (edges .entry))) n d (s .0) t) (now (work .entry)) r (now (work .exit)) ⌝ }
+    ensures { λ r. ⌜ Followed (firstBack (versionAt (now (versions .entry))) (edgeAt (now (edges .entry))) n d (s .0) t) (now (work .entry)) r
+        (now (work .exit)) ⌝ }
 {
     let a = edges_back(versions, edges, d, work, s, t);
     let b = steps_back(versions, n, work);
@@ -186,7 +189,8 @@ fn later_back(
     t: u32,
 ) -> bool
     requires { ⌜ (n ≤ versionCapacity (now versions)) × (d ≤ edgeCapacity (now edges)) ⌝ }
-    ensures { λ r. ⌜ Followed (laterBack (versionAt (now (versions .entry))) (edgeAt (now (edges .entry))) n d (s .0) t) (now (work .entry)) r (now (work .exit)) ⌝ }
+    ensures { λ r. ⌜ Followed (laterBack (versionAt (now (versions .entry))) (edgeAt (now (edges .entry))) n d (s .0) t) (now (work .entry)) r
+        (now (work .exit)) ⌝ }
 {
     let a = sources_back(edges, d, work, s, t);
     let b = steps_back(versions, n, work);
@@ -204,7 +208,8 @@ fn close_back(
     t: u32,
 )
     requires { ⌜ (n ≤ versionCapacity (now versions)) × (d ≤ edgeCapacity (now edges)) ⌝ }
-    ensures { λ _. ⌜ now (work .exit) ≡ passes n (laterBack (versionAt (now (versions .entry))) (edgeAt (now (edges .entry))) n d (s .0) t) (now (work .entry)) ⌝ }
+    ensures { λ _. ⌜ now (work .exit)
+        ≡ passes n (laterBack (versionAt (now (versions .entry))) (edgeAt (now (edges .entry))) n d (s .0) t) (now (work .entry)) ⌝ }
 {
     let mut left = n;
     while 0 < left {

@@ -17,7 +17,8 @@ pub fn check_trace(
     work: &[u8],
     marks: &[u8],
 ) -> Checked
-    ensures { λ r. ⌜ r ≡ firstOf (traceChecks c (tables (now (entities .entry)) (now (versions .entry)) (now (edges .entry))) x (now (work .entry)) (now (marks .entry))) ⌝ }
+    ensures { λ r. ⌜ r ≡ firstOf
+        (traceChecks c (tables (now (entities .entry)) (now (versions .entry)) (now (edges .entry))) x (now (work .entry)) (now (marks .entry))) ⌝ }
 {
     if !soundness::is_sound(c, entities, versions, edges) {
         return Checked::Refused(Refusal::Unsound);

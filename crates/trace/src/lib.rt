@@ -37,7 +37,9 @@ fn trace_back(
     marks: &mut [u8],
 ) -> BackwardAnswer
     requires { ⌜ firstOf (traceChecks c (tables (now entities) (now versions) (now edges)) (x .0) (now work) (now marks)) ≡ Passed ⌝ }
-    ensures { λ r. ⌜ backwardTrace r (now (work .exit)) (now (marks .exit)) ≡ backwardOf c (tables (now (entities .entry)) (now (versions .entry)) (now (edges .entry))) (x .0) time (now (work .entry)) (now (marks .entry)) ⌝ }
+    ensures { λ r. ⌜ backwardTrace r (now (work .exit)) (now (marks .exit))
+        ≡ backwardOf c (tables (now (entities .entry)) (now (versions .entry)) (now (edges .entry))) (x .0) time (now (work .entry))
+        (now (marks .entry)) ⌝ }
 {
     let s = start_version(c, entities, versions, x, time);
     let n = c.versions as usize;
@@ -57,7 +59,9 @@ pub fn backward(
     work: &mut [u8],
     marks: &mut [u8],
 ) -> BackwardAnswer
-    ensures { λ r. ⌜ backwardTrace r (now (work .exit)) (now (marks .exit)) ≡ backwardOf counts (tables (now (entities .entry)) (now (versions .entry)) (now (edges .entry))) entity time (now (work .entry)) (now (marks .entry)) ⌝ }
+    ensures { λ r. ⌜ backwardTrace r (now (work .exit)) (now (marks .exit))
+        ≡ backwardOf counts (tables (now (entities .entry)) (now (versions .entry)) (now (edges .entry))) entity time (now (work .entry))
+        (now (marks .entry)) ⌝ }
 {
     let checked = check_trace(counts, entities, versions, edges, entity, work, marks);
     match checked {
@@ -90,7 +94,9 @@ fn trace_on(
     marks: &mut [u8],
 ) -> ForwardAnswer
     requires { ⌜ firstOf (traceChecks c (tables (now entities) (now versions) (now edges)) (x .0) (now work) (now marks)) ≡ Passed ⌝ }
-    ensures { λ r. ⌜ forwardTrace r (now (work .exit)) (now (marks .exit)) ≡ forwardOf c (tables (now (entities .entry)) (now (versions .entry)) (now (edges .entry))) (x .0) time (now (work .entry)) (now (marks .entry)) ⌝ }
+    ensures { λ r. ⌜ forwardTrace r (now (work .exit)) (now (marks .exit))
+        ≡ forwardOf c (tables (now (entities .entry)) (now (versions .entry)) (now (edges .entry))) (x .0) time (now (work .entry))
+        (now (marks .entry)) ⌝ }
 {
     let s = start_version(c, entities, versions, x, time);
     let i = intake(versions, edges, c.edges, s, time);
@@ -115,7 +121,9 @@ pub fn forward(
     work: &mut [u8],
     marks: &mut [u8],
 ) -> ForwardAnswer
-    ensures { λ r. ⌜ forwardTrace r (now (work .exit)) (now (marks .exit)) ≡ forwardOf counts (tables (now (entities .entry)) (now (versions .entry)) (now (edges .entry))) entity time (now (work .entry)) (now (marks .entry)) ⌝ }
+    ensures { λ r. ⌜ forwardTrace r (now (work .exit)) (now (marks .exit))
+        ≡ forwardOf counts (tables (now (entities .entry)) (now (versions .entry)) (now (edges .entry))) entity time (now (work .entry))
+        (now (marks .entry)) ⌝ }
 {
     let checked = check_trace(counts, entities, versions, edges, entity, work, marks);
     match checked {

@@ -61,7 +61,8 @@ fn edge_on(versions: &[u32], edges: &[u32], work: &mut [u8], k: EdgeNo) -> bool
 
 fn edges_on(versions: &[u32], edges: &[u32], d: u32, work: &mut [u8]) -> bool
     requires { ⌜ (d ≤ edgeCapacity (now edges)) × (length (now work) ≤ none) ⌝ }
-    ensures { λ r. ⌜ Followed (up (λ k. edgeOn (versionAt (now (versions .entry))) (edgeAt (now (edges .entry)) k)) d) (now (work .entry)) r (now (work .exit)) ⌝ }
+    ensures { λ r. ⌜ Followed (up (λ k. edgeOn (versionAt (now (versions .entry))) (edgeAt (now (edges .entry)) k)) d) (now (work .entry)) r
+        (now (work .exit)) ⌝ }
 {
     let mut changed = false;
     let mut k: u32 = 0;

@@ -68,7 +68,8 @@ fn mark_below(versions: &[u32], n: u32, work: &[u8], e: u32, marks: &mut [u8]) -
 // The same in the lent buffers, of which what stands past the counts stays.
 pub fn mark_entities(c: Counts, versions: &[u32], work: &[u8], marks: &mut [u8]) -> u32
     requires { ⌜ (c .versions ≤ versionCapacity (now versions)) × (c .versions ≤ length (now work)) × (c .entities ≤ length (now marks)) ⌝ }
-    ensures { λ r. ⌜ EntitiesMarked c (versionAt (now (versions .entry))) (take (c .versions) (now (work .entry))) (now (marks .entry)) r (now (marks .exit)) ⌝ }
+    ensures { λ r. ⌜ EntitiesMarked c (versionAt (now (versions .entry))) (take (c .versions) (now (work .entry))) (now (marks .entry)) r
+        (now (marks .exit)) ⌝ }
 {
     let n = c.versions as usize;
     let e = c.entities as usize;
