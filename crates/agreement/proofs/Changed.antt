@@ -13,11 +13,12 @@ use Rattle.record.specs.declared.Declaration.{Declaration}
 use Rattle.record.specs.declared.Event.{Event}
 use Rattle.record.specs.declared.Record.{Record}
 use Rattle.record.specs.declared.Record.the-variants as records
+use Rattle.rows.specs.Rows.{entityRow}
 use Rattle.rules.specs.declared.Decision.{Decision}
 use Rattle.rules.specs.declared.Decision.the-variants.{Repeat, Widen, Renew}
 use Rattle.rules.specs.Trail.{Capacity, Trail, latestOf}
 use Rattle.rules.specs.Decide.{decisionOf}
-use Rattle.rules.specs.Record.{declared, happened, keptEdge, entityRow, refusalOf, changeOf}
+use Rattle.rules.specs.Record.{declared, happened, keptEdge, refusalOf, changeOf}
 use Rattle.rules.specs.PlainList.{put, changed}
 use Rattle.soundness.specs.Facts.{RowFacts}
 use Rattle.soundness.specs.Taken.{EventTaken}

@@ -30,7 +30,7 @@ use Rattle.causality.specs.Statements.{Logged}
 use Rattle.kept_log.specs.LogRecords.{logRecords, wholly}
 use Rattle.kept_log.proofs.LogRecords.{length-logRecords}
 use Rattle.kept_log.proofs.ReadBack.{log-taken-header, log-taken-contents}
-use Rattle.agreement.specs.RoundTrip.{AllBytes, EnoughRows, SameTrail, TakenAgain, LogTakenAgain, RoundTrip}
+use Rattle.agreement.specs.RoundTrip.{AllBytes, EnoughRows, TakenAgain, LogTakenAgain, RoundTrip}
 use Rattle.agreement.proofs.Matching.{Matches, matches, lent-alike, lent-rows, lent-sound, Ready, capacity-within}
 use Rattle.agreement.proofs.Held.{Known, known}
 use Rattle.agreement.proofs.Left.{own-lent, left-by}
@@ -38,7 +38,7 @@ use Rattle.agreement.proofs.KeptOnly.{allKept, keptEvents-allKept}
 use Rattle.agreement.proofs.Relogged.{relogged}
 use Rattle.agreement.proofs.Again.{Before, Regrown, regrown}
 use Rattle.agreement.proofs.TracesAgain.{backward-again, forward-again, intake-again}
-use Rattle.agreement.proofs.SameCalls.{same-calls}
+use Rattle.agreement.proofs.SameCalls.{SameTraces, same-calls}
 use Rattle.agreement.proofs.Times.{last-small}
 use Rattle.agreement.proofs.TakenAll.{batch-all, batch-answer}
 use Rattle.agreement.proofs.Log.{events-same, logRecords-reverse}
@@ -97,17 +97,19 @@ module _ (h : Held) (rs : List Record) (m : Matches h rs) (t : Tables) (l : Lent
     entities-again : U .counts .entities ≡ T .counts .entities
     entities-again = sym (y .alike .rows .entities) ∙ again .entities
 
-    same-trail : SameTrail T U
-    same-trail =
+    same-traces : SameTraces T U
+    same-traces =
         let a = lent-alike h rs m t l .rows in
         record {
-          entities = entities-again;
-          sorts = λ x i.
-              let z : x < worked R .counts .entities = omega (arith, again .entities) in
-              ap (λ (r : EntityRow). r .sort) (sym (y .alike .rows .entity-rows x z)) ∙ again .sorts x i;
-          edges = sym (y .alike .rows .edges) ∙ again .edges ∙ a .edges;
-          events = λ k i.
-              events-same T U ks (first .faithful .log) (subst (Logged U) (keptEvents-allKept ks) (second .faithful .log)) k (omega (arith, first .faithful .edges));
+          trail = record {
+            entities = entities-again;
+            sorts = λ x i.
+                let z : x < worked R .counts .entities = omega (arith, again .entities) in
+                ap (λ (r : EntityRow). r .sort) (sym (y .alike .rows .entity-rows x z)) ∙ again .sorts x i;
+            edges = sym (y .alike .rows .edges) ∙ again .edges ∙ a .edges;
+            events = λ k i.
+                events-same T U ks (first .faithful .log) (subst (Logged U) (keptEvents-allKept ks) (second .faithful .log)) k (omega (arith, first .faithful .edges));
+          };
           versions = omega (arith, y .alike .rows .versions, again .versions, a .entities, a .versions);
           backward = backward-again first second entities-again;
           forward = forward-again first second entities-again;
@@ -126,8 +128,8 @@ module _ (h : Held) (rs : List Record) (m : Matches h rs) (t : Tables) (l : Lent
         let n : length (reverse R) ≡ T .counts .entities + T .counts .edges = ap length (sym turned) ∙ length-logRecords T in
         record {
           answer = batch-answer lent file header R (again .by) q ∙ (λ j. record { refusal = 0; taken = n j });
-          same = same-trail _ _ y;
-          calls = same-calls _ t _ _ (same-trail _ _ y) (lent-sound h rs m t l) (y .sound);
+          same = same-traces _ _ y .trail;
+          calls = same-calls _ t _ _ (same-traces _ _ y) (lent-sound h rs m t l) (y .sound);
         }
 
 held-trip : (cs : List Call) → AllLent cs → AllBytes cs → (t : Tables) → Lent (heldAfter cs) t → (out : List ℕ)

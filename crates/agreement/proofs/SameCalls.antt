@@ -1,5 +1,5 @@
 -- Sound trails with the same entities, kept events and traces: traces are refused alike and answer alike, and the kept logs are equal.
-use Prim.Native.Nat.{ℕ, _+_, _*_, _<_}
+use Prim.Native.Nat.{ℕ, _<_}
 use mathlib.Core.Path.{_≡_, refl, sym, _∙_, ap}
 use mathlib.Core.Bool.{true, not}
 use mathlib.Core.List.{List, [], _∷_, _++_}
@@ -12,14 +12,13 @@ use Rattle.refusals.specs.Refusals.{check, firstOf, numberOf}
 use Rattle.rows.specs.declared.Counts.{Counts}
 use Rattle.rows.specs.Rows.{entityNo}
 use Rattle.record.specs.declared.Record.the-variants as records
-use Rattle.record.specs.Layout.{headerLength, recordLength}
 use Rattle.record.specs.Encode.{headerBytes}
-use Rattle.rules.specs.Trail.{Tables, capacityOf, trailOf}
+use Rattle.rules.specs.Trail.{Tables, capacityOf, Trail, trailOf}
 use Rattle.rules.specs.Sound.{isSound}
 use Rattle.rules.specs.Batch.{ifRefused}
 use Rattle.rules.specs.Marks.{ones, overlaid}
-use Rattle.rules.specs.Backward.{traceChecks, BackwardTrace, backwardOf}
-use Rattle.rules.specs.Forward.{ForwardTrace, forwardOf}
+use Rattle.rules.specs.Backward.{backwardEntities, traceChecks, BackwardTrace, backwardOf}
+use Rattle.rules.specs.Forward.{forwardEntities, forwardIntake, ForwardTrace, forwardOf}
 use Rattle.rules.specs.KeptLog.{declarationRecord, eventRecord, encodedBelow, logBytes, logChecks, keptLog, keptLogOf}
 use Rattle.closure.proofs.Traces.{passed-entity}
 use Rattle.kept_log.proofs.Same.{encodedBelow-same}
@@ -30,7 +29,15 @@ ifRefused-same : {A B : Type 0} (f : A → B) (x : Checked) (stop on on′ : A) 
 ifRefused-same f Passed stop on on′ h = h refl
 ifRefused-same f (Refused r) stop on on′ h = refl
 
-module _ (c : Counts) (t : Tables) (d : Counts) (u : Tables) (s : SameTrail (trailOf c t) (trailOf d u)) (p : isSound (capacityOf t) (trailOf c t) ≡ true)
+-- two trails with the same entities and kept events, as many versions, and the same traces
+pub record SameTraces (T U : Trail) : Type 0 where
+  pub trail : SameTrail T U
+  pub versions : U .counts .versions ≡ T .counts .versions
+  pub backward : (v time : ℕ) → v < T .counts .entities → backwardEntities U v time ≡ backwardEntities T v time
+  pub forward : (u time : ℕ) → u < T .counts .entities → forwardEntities U u time ≡ forwardEntities T u time
+  pub intake : (u time : ℕ) → u < T .counts .entities → forwardIntake U u time ≡ forwardIntake T u time
+
+module _ (c : Counts) (t : Tables) (d : Counts) (u : Tables) (s : SameTraces (trailOf c t) (trailOf d u)) (p : isSound (capacityOf t) (trailOf c t) ≡ true)
     (q : isSound (capacityOf u) (trailOf d u) ≡ true) where
   sound-same : isSound (capacityOf u) (trailOf d u) ≡ isSound (capacityOf t) (trailOf c t)
   sound-same = q ∙ sym p
@@ -43,9 +50,9 @@ module _ (c : Counts) (t : Tables) (d : Counts) (u : Tables) (s : SameTrail (tra
     checked-same = λ j.
         firstOf (
         check (not (sound-same j)) Unsound
-        ∷ check (leb (s .entities j) x) Undeclared
+        ∷ check (leb (s .trail .entities j) x) Undeclared
         ∷ check (ltb (length work) (s .versions j)) BufferShort
-        ∷ check (ltb (length marks) (s .entities j)) BufferShort
+        ∷ check (ltb (length marks) (s .trail .entities j)) BufferShort
         ∷ []
         )
 
@@ -78,13 +85,13 @@ module _ (c : Counts) (t : Tables) (d : Counts) (u : Tables) (s : SameTrail (tra
   -- The kept log
 
   declaration-same : (x : ℕ) → x < c .entities → declarationRecord (trailOf d u) x ≡ declarationRecord (trailOf c t) x
-  declaration-same x l = λ j. records.Declaration (record { sort = s .sorts x l j; entity = entityNo x })
+  declaration-same x l = λ j. records.Declaration (record { sort = s .trail .sorts x l j; entity = entityNo x })
 
   logBytes-same : logBytes (trailOf d u) ≡ logBytes (trailOf c t)
   unfolding logBytes
   logBytes-same =
-      let a = ap (encodedBelow (declarationRecord (trailOf d u))) (s .entities) ∙ encodedBelow-same _ _ (c .entities) declaration-same in
-      let b = ap (encodedBelow (eventRecord (trailOf d u))) (s .edges) ∙ encodedBelow-same _ _ (c .edges) (s .events) in
+      let a = ap (encodedBelow (declarationRecord (trailOf d u))) (s .trail .entities) ∙ encodedBelow-same _ _ (c .entities) declaration-same in
+      let b = ap (encodedBelow (eventRecord (trailOf d u))) (s .trail .edges) ∙ encodedBelow-same _ _ (c .edges) (s .trail .events) in
       λ j. headerBytes ++ (a j ++ b j)
 
   log-same : (out : List ℕ) → keptLogOf d u out ≡ keptLogOf c t out

@@ -9,17 +9,17 @@ use lib.ListN.{getD}
 use Rattle.refusals.specs.declared.Refusal.the-variants.{Undeclared, BufferShort}
 use Rattle.refusals.specs.Refusals.{refusalNo}
 use Rattle.rows.specs.declared.Counts.{Counts}
+use Rattle.record.specs.declared.Event.{Event}
 use Rattle.record.specs.declared.Record.{Record}
 use Rattle.rules.specs.Trail.{Tables, capacityOf, trailOf}
 use Rattle.rules.specs.Sound.{isSound}
 use Rattle.rules.specs.Paths.{PathBy, PathFrom, Gains}
-use Rattle.rules.specs.History.{Item, accepted, Reached, IntakeTime}
+use Rattle.rules.specs.History.{Item, dropped, accepted, Reached, IntakeTime}
 use Rattle.rules.specs.PlainList.{worked, itemsOf}
 use Rattle.rules.specs.Backward.{BackwardTrace, backwardOf}
 use Rattle.rules.specs.Forward.{ForwardTrace, forwardOf}
 use Rattle.rules.specs.Calls.{Call, plainAfter}
 use Rattle.closure.specs.ByRelations.{CountOf}
-use Rattle.causality.specs.Statements.{itemEvent, IsKept}
 use Rattle.agreement.specs.Left.{LeftBy}
 
 -- of n entities, each byte is 1 if M holds of it and else 0, and the count is of those that M holds of
@@ -44,9 +44,9 @@ pub record TraceAgrees (number : ℕ) (Agrees : Type 0) : Type 0 where
   pub refusal : (number ≡ 0) ⊎ ((number ≡ refusalNo Undeclared) ⊎ (number ≡ refusalNo BufferShort))
   pub agrees : number ≡ 0 → Agrees
 
--- every event by which an entity gained an ancestor is a kept intake of it
+-- every event by which an entity gained an ancestor is a kept intake of it: by a dropped one none did
 abbrev pub GainsAreKept : List Item → Type 0
-GainsAreKept hs = (later : List Item) (h : Item) (earlier : List Item) → hs ≡ later ++ (h ∷ earlier) → Gains (accepted earlier) (itemEvent h) → IsKept h
+GainsAreKept hs = (later earlier : List Item) (e : Event) → hs ≡ later ++ (dropped e ∷ earlier) → Gains (accepted earlier) e → ⊥
 
 -- counts c and tables t agree with the plain list rs: so do traces with any entity, time and buffers
 pub record Agrees (rs : List Record) (c : Counts) (t : Tables) : Type 0 where

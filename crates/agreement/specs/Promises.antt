@@ -29,21 +29,17 @@ pub record BatchPromise (c : Counts) (t : Tables) (file : List ℕ) (b : Batched
   pub after : (cs : List Call) → LeftBy cs c t → BatchAfter cs t file b
 
 -- after the calls cs: the list with this trace leaves what the trace was lent, and the trace agrees with the full list
-pub record BackwardAfter (cs : List Call) (c : Counts) (t : Tables) (v time : ℕ) (work marks : List ℕ) (b : BackwardTrace) : Type 0 where
-  pub left : LeftBy (backward t v time work marks ∷ cs) c t
-  pub agrees : TraceAgrees (b .answer .refusal) (BackwardAgrees (plainAfter cs) v time b)
+pub record TraceAfter (cs : List Call) (c : Counts) (t : Tables) (trace : Call) (number : ℕ) (Agrees : Type 0) : Type 0 where
+  pub left : LeftBy (trace ∷ cs) c t
+  pub agrees : TraceAgrees number Agrees
 
 pub record BackwardPromise (c : Counts) (t : Tables) (v time : ℕ) (work marks : List ℕ) (b : BackwardTrace) : Type 0 where
   pub traced : IsBackwardTrace c t v time work marks b
-  pub after : (cs : List Call) → LeftBy cs c t → BackwardAfter cs c t v time work marks b
-
-pub record ForwardAfter (cs : List Call) (c : Counts) (t : Tables) (u time : ℕ) (work marks : List ℕ) (f : ForwardTrace) : Type 0 where
-  pub left : LeftBy (forward t u time work marks ∷ cs) c t
-  pub agrees : TraceAgrees (f .answer .refusal) (ForwardAgrees (plainAfter cs) u time f)
+  pub after : (cs : List Call) → LeftBy cs c t → TraceAfter cs c t (backward t v time work marks) (b .answer .refusal) (BackwardAgrees (plainAfter cs) v time b)
 
 pub record ForwardPromise (c : Counts) (t : Tables) (u time : ℕ) (work marks : List ℕ) (f : ForwardTrace) : Type 0 where
   pub traced : IsForwardTrace c t u time work marks f
-  pub after : (cs : List Call) → LeftBy cs c t → ForwardAfter cs c t u time work marks f
+  pub after : (cs : List Call) → LeftBy cs c t → TraceAfter cs c t (forward t u time work marks) (f .answer .refusal) (ForwardAgrees (plainAfter cs) u time f)
 
 -- after calls whose files are of bytes, the log that was written is taken in again
 abbrev pub LogPromise : Counts → Tables → KeptLog → Type 0

@@ -8,8 +8,8 @@ use Rattle.rows.specs.declared.Counts.{Counts}
 use Rattle.record.specs.Layout.{Bytes}
 use Rattle.rules.specs.Trail.{Tables, Capacity, capacityOf, Trail, trailOf, freshCounts}
 use Rattle.rules.specs.Batch.{Batched, batchOf}
-use Rattle.rules.specs.Backward.{backwardEntities, backwardOf}
-use Rattle.rules.specs.Forward.{forwardEntities, forwardIntake, forwardOf}
+use Rattle.rules.specs.Backward.{backwardOf}
+use Rattle.rules.specs.Forward.{forwardOf}
 use Rattle.rules.specs.KeptLog.{eventRecord, KeptLog, keptLogOf}
 use Rattle.rules.specs.Calls.{Call, batch, backward, forward}
 use Rattle.agreement.specs.Left.{LeftBy}
@@ -27,18 +27,14 @@ pub record EnoughRows (cap : Capacity) (c : Counts) : Type 0 where
   pub versions : c .versions ≤ cap .versions
   pub edges : c .edges ≤ cap .edges
 
--- the same entities, kept events and traces: those of U are those of T
+-- the same entities and kept events: those of U are those of T
 pub record SameTrail (T U : Trail) : Type 0 where
   pub entities : U .counts .entities ≡ T .counts .entities
   pub sorts : (x : ℕ) → x < T .counts .entities → U .entity x .sort ≡ T .entity x .sort
   pub edges : U .counts .edges ≡ T .counts .edges
   pub events : (k : ℕ) → k < T .counts .edges → eventRecord U k ≡ eventRecord T k
-  pub versions : U .counts .versions ≡ T .counts .versions
-  pub backward : (v time : ℕ) → v < T .counts .entities → backwardEntities U v time ≡ backwardEntities T v time
-  pub forward : (u time : ℕ) → u < T .counts .entities → forwardEntities U u time ≡ forwardEntities T u time
-  pub intake : (u time : ℕ) → u < T .counts .entities → forwardIntake U u time ≡ forwardIntake T u time
 
--- the same of the calls, whatever they are lent besides: the numbers that they return, the mark buffer, the output
+-- the same traces and kept log, whatever the calls are lent besides: the numbers that they return, the mark buffer, the output
 pub record SameCalls (c : Counts) (t : Tables) (d : Counts) (u : Tables) : Type 0 where
   pub backward-answer : (v time : ℕ) (work marks : List ℕ) → backwardOf d u v time work marks .answer ≡ backwardOf c t v time work marks .answer
   pub backward-marks : (v time : ℕ) (work marks : List ℕ) → backwardOf d u v time work marks .marks ≡ backwardOf c t v time work marks .marks

@@ -3,6 +3,7 @@ use Prim.Native.Nat.{ℕ, _<_}
 use mathlib.Core.Path.{_≡_, sym, subst}
 use mathlib.Core.Logic.{_⊎_, inl, inr, _↔_, Iff·trans, Iff·symm}
 use mathlib.Core.List.{List, _∷_, _++_}
+use Rattle.record.specs.declared.Event.{Event}
 use Rattle.rules.specs.Trail.{Trail}
 use Rattle.rules.specs.Paths.{CausalPath, Gains}
 use Rattle.rules.specs.History.{Item, kept, dropped, accepted, NoIntake, LatestIntake, Reached, fromIntake, fromZero}
@@ -12,13 +13,13 @@ use Rattle.rules.specs.Forward.{ForwardMarks}
 use Rattle.rules.proofs.Start.{start-one}
 use Rattle.causality.specs.Working.{ne, EntityMarked, Grown}
 use Rattle.causality.specs.Order.{OrderPath, upTo, above, since, Falling}
-use Rattle.causality.specs.Statements.{itemEvent, IsKept, Faithful, Stable, Document01, Claims}
+use Rattle.causality.specs.Statements.{Faithful, Stable, Document01, Claims}
 use Rattle.causality.proofs.Reach.{reach-path, reach-part}
 use Rattle.causality.proofs.Parts.{upTo-part, since-part, since-none, since-intake, latest-intake}
 use Rattle.causality.proofs.Accepted.{grown-ordered}
 use Rattle.causality.proofs.Start.{start-some, version-walk}
 use Rattle.causality.proofs.Forward.{forward-reach}
-use Rattle.causality.proofs.Ancestors.{NoGain, dropped-gains-none}
+use Rattle.causality.proofs.Ancestors.{dropped-gains-none}
 use Rattle.causality.proofs.Backward.{backward-reach}
 use Rattle.causality.proofs.Later.{upTo-same, above-since}
 use Rattle.causality.proofs.Log.{edge-count, logged, versions-le}
@@ -29,14 +30,11 @@ use Rattle.causality.proofs.AtOrLater.{from-since}
 
 -- any working
 
-gain : {T : Trail} {hs : List Item} → Grown T hs → (later : List Item) (h : Item) (earlier : List Item) → hs ≡ later ++ (h ∷ earlier) → (x : ℕ)
-    → (OrderPath (accepted earlier) x (itemEvent h .target .0) → ⊥) → OrderPath (accepted (h ∷ earlier)) x (itemEvent h .target .0) → IsKept h
-gain g later h earlier q x = go h (dropped-gains-none g later h earlier q)
-  where
-    go : (h : Item) → NoGain h earlier → (OrderPath (accepted earlier) x (itemEvent h .target .0) → ⊥)
-        → OrderPath (accepted (h ∷ earlier)) x (itemEvent h .target .0) → IsKept h
-    go (kept e) z n p = tt
-    go (dropped e) z n p = n (reach-path (accepted earlier) x (e .target .0) .0 (z x (e .target .0) (reach-path (e ∷ accepted earlier) x (e .target .0) .1 p)))
+gain : {T : Trail} {hs : List Item} → Grown T hs → (later earlier : List Item) (e : Event) → hs ≡ later ++ (dropped e ∷ earlier) → (x : ℕ)
+    → OrderPath (e ∷ accepted earlier) x (e .target .0) → OrderPath (accepted earlier) x (e .target .0)
+gain g later earlier e q x p =
+    reach-path (accepted earlier) x (e .target .0) .0
+    (dropped-gains-none g later (dropped e) earlier q x (e .target .0) (reach-path (e ∷ accepted earlier) x (e .target .0) .1 p))
 
 faithful : {T : Trail} {hs : List Item} → Grown T hs → Faithful T hs
 faithful {T} {hs} g =
@@ -76,18 +74,12 @@ reached u t hs y = (to (latest-intake u t hs), from)
     from (fromIntake l p) = subst (λ es. CausalPath es u y) (sym (since-intake l)) p
     from (fromZero n p) = subst (λ es. CausalPath es u y) (sym (since-none u t hs n)) p
 
-causal-gain : {T : Trail} {hs : List Item} → Grown T hs → Falling (accepted hs) → (later : List Item) (h : Item) (earlier : List Item)
-    → hs ≡ later ++ (h ∷ earlier) → Gains (accepted earlier) (itemEvent h) → IsKept h
-causal-gain {hs = hs} g f later h earlier q a = go h (earlier-falling later h earlier hs q f) (gain g later h earlier q) a
-  where
-    go : (h : Item) → Falling (accepted (h ∷ earlier)) × Falling (accepted earlier)
-        → ((x : ℕ) → (OrderPath (accepted earlier) x (itemEvent h .target .0) → ⊥) → OrderPath (accepted (h ∷ earlier)) x (itemEvent h .target .0) → IsKept h)
-        → Gains (accepted earlier) (itemEvent h) → IsKept h
-    go (kept e) o k a = tt
-    go (dropped e) o k a =
-        k (a .ancestor)
-        (λ p. a .before (record { other = a .after .other; causal = order-causal (accepted earlier) (o .1) (a .ancestor) (e .target .0) .0 p }))
-        (order-causal (e ∷ accepted earlier) (o .0) (a .ancestor) (e .target .0) .1 (a .after .causal))
+causal-gain : {T : Trail} {hs : List Item} → Grown T hs → Falling (accepted hs) → (later earlier : List Item) (e : Event)
+    → hs ≡ later ++ (dropped e ∷ earlier) → Gains (accepted earlier) e → ⊥
+causal-gain {hs = hs} g f later earlier e q a =
+    let o = earlier-falling later (dropped e) earlier hs q f in
+    let p = order-causal (e ∷ accepted earlier) (o .0) (a .ancestor) (e .target .0) .1 (a .after .causal) in
+    a .before (record { other = a .after .other; causal = order-causal (accepted earlier) (o .1) (a .ancestor) (e .target .0) .0 (gain g later earlier e q (a .ancestor) p) })
 
 document : {T : Trail} {hs : List Item} → Grown T hs → Falling (accepted hs) → Document01 T hs
 document {T} {hs} g f =

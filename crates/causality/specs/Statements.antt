@@ -15,14 +15,6 @@ use Rattle.rules.specs.Forward.{ForwardMarks}
 use Rattle.causality.specs.Working.{ne, nv, nd, EntityMarked, lastOf, Grown}
 use Rattle.causality.specs.Order.{OrderPath, upTo, above, since, Falling}
 
-abbrev pub itemEvent : Item → Event
-itemEvent (kept e) = e
-itemEvent (dropped e) = e
-
-abbrev pub IsKept : Item → Type 0
-IsKept (kept e) = Unit {0}
-IsKept (dropped e) = ⊥
-
 -- edge k is the one kept for e
 pub record EdgeFor (T : Trail) (k : ℕ) (e : Event) : Type 0 where
   pub source : ownerOf T (T .edge k .from .0) ≡ e .source .0
@@ -52,9 +44,9 @@ pub record Faithful (T : Trail) (hs : List Item) : Type 0 where
   pub intake : (u t s : ℕ) → u < ne T → StartVersion T u t s → IntakeTime u t hs (intakeOf T s t)
   -- "a forward answer may hold more than the full log's answer at t, never less"
   pub never-less : (u t s y : ℕ) → u < ne T → StartVersion T u t s → OrderPath (above t (accepted hs)) u y → EntityMarked T (ForwardMarks T s) y
-  -- an event by which its target gains an ancestor is kept
-  pub gain : (later : List Item) (h : Item) (earlier : List Item) → hs ≡ later ++ (h ∷ earlier) → (x : ℕ)
-      → (OrderPath (accepted earlier) x (itemEvent h .target .0) → ⊥) → OrderPath (accepted (h ∷ earlier)) x (itemEvent h .target .0) → IsKept h
+  -- a dropped event gives its target no causal path that it had not
+  pub gain : (later earlier : List Item) (e : Event) → hs ≡ later ++ (dropped e ∷ earlier) → (x : ℕ)
+      → OrderPath (e ∷ accepted earlier) x (e .target .0) → OrderPath (accepted earlier) x (e .target .0)
   -- the edges are the kept events in order
   pub edges : nd T ≡ length (keptEvents hs)
   pub log : Logged T (keptEvents hs)
@@ -73,7 +65,8 @@ pub record Document01 (T : Trail) (hs : List Item) : Type 0 where
   pub forward : (u t s y : ℕ) → u < ne T → StartVersion T u t s → EntityMarked T (ForwardMarks T s) y ↔ Reached u t hs y
   pub intake : (u t s : ℕ) → u < ne T → StartVersion T u t s → IntakeTime u t hs (intakeOf T s t)
   pub never-less : (u t s y : ℕ) → u < ne T → StartVersion T u t s → PathFrom (accepted hs) t u y → EntityMarked T (ForwardMarks T s) y
-  pub gain : (later : List Item) (h : Item) (earlier : List Item) → hs ≡ later ++ (h ∷ earlier) → Gains (accepted earlier) (itemEvent h) → IsKept h
+  -- no entity gains an ancestor by a dropped event
+  pub gain : (later earlier : List Item) (e : Event) → hs ≡ later ++ (dropped e ∷ earlier) → Gains (accepted earlier) e → ⊥
 
 pub record Claims : Type 0 where
   pub any-working : {T : Trail} {hs : List Item} → Grown T hs → Faithful T hs
