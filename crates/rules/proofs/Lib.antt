@@ -1,3 +1,13 @@
+pub mod Computed
 pub mod Cases
+pub mod SoundCases
+pub mod FileCases
+pub mod RefusalCases
+pub mod CapacityCases
+pub mod RecordCases
+pub mod TraceCases
+pub mod LogCases
+pub mod ListingCases
+pub mod CallCases
 pub mod Start
 pub mod Intake

@@ -22,3 +22,13 @@ pub mod Listing
 pub mod Worked
 -- "Refused because ..": their order
 pub mod Order
+-- Cases at the boundaries
+pub mod SoundCases
+pub mod FileCases
+pub mod RefusalCases
+pub mod CapacityCases
+pub mod RecordCases
+pub mod TraceCases
+pub mod LogCases
+pub mod ListingCases
+pub mod CallCases

@@ -1,0 +1,23 @@
+-- The plain list: every row is computed by the definitions, from the bytes of the file.
+use mathlib.Core.Path.{refl}
+use Rattle.rules.specs.CallCases.{CallCases}
+use Rattle.rules.proofs.Computed.{computed}
+
+pub callCases : CallCases
+unfolding computed
+callCases = record {
+  all-added = refl;
+  added-to-refused = refl;
+  none-added = refl;
+  first-added = refl;
+  accepted-times = refl;
+  kept-times = refl;
+  worked-counts = refl;
+  worked-entities = refl;
+  worked-versions = refl;
+  worked-edges = refl;
+  calls-accepted = refl;
+  calls-kept = refl;
+  calls-counts = refl;
+  calls-tables = refl;
+}

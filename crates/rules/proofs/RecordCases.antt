@@ -1,0 +1,27 @@
+-- One record, with every number of the tables: every row is computed by the definitions, from the bytes of the file.
+use mathlib.Core.Path.{refl}
+use Rattle.rules.specs.RecordCases.{RecordCases}
+use Rattle.rules.proofs.Computed.{computed}
+
+pub recordCases : RecordCases
+unfolding computed
+recordCases = record {
+  declared-counts = refl;
+  declared-tables = refl;
+  after-read = refl;
+  after-load = refl;
+  after-execve = refl;
+  newest-repeated = refl;
+  two-writes = refl;
+  two-forks = refl;
+  into-older-read = refl;
+  into-older-load = refl;
+  into-older-execve = refl;
+  grown-answer = refl;
+  grown-counts = refl;
+  grown-entities = refl;
+  grown-versions = refl;
+  grown-edges = refl;
+  late-counts = refl;
+  late-entities = refl;
+}

@@ -1,0 +1,51 @@
+-- Document 01, "Traces": the plain list beside a list of calls, and what the calls leave. The proof is in
+-- proofs/CallCases.antt.
+use Prim.Native.Nat.{ℕ}
+use mathlib.Core.Path.{_≡_}
+use mathlib.Core.List.{List, [], _∷_, _++_, map}
+use lib.ListN.{length}
+use Rattle.rows.specs.Rows.{entityNo}
+use Rattle.record.specs.declared.Event.{Event}
+use Rattle.record.specs.declared.Record.{Record}
+use Rattle.record.specs.declared.Record.the-variants as records
+use Rattle.rules.specs.Trail.{Tables, capacityOf, counts, none}
+use Rattle.rules.specs.Record.{entityRow, versionRow, edgeRow}
+use Rattle.rules.specs.History.{accepted, keptEvents}
+use Rattle.rules.specs.PlainList.{worked, itemsOf, addedBy}
+use Rattle.rules.specs.Calls.{Call, batch, backward, forward, heldAfter, plainAfter}
+use Rattle.rules.specs.Worked.{header, file, room, batch as workedBatch}
+use Rattle.rules.specs.Order.{declare, event}
+
+-- the records of the worked file with n edge rows, and with one record more
+abbrev pub plain : ℕ → List Record
+plain n = addedBy (capacityOf (room n)) [] (file 1)
+
+abbrev pub timesOf : List Event → List ℕ
+timesOf es = map (λ e. e .time) es
+
+-- the worked file, a backward trace, two reads of which the second is not later, a forward trace: the last call stands first
+abbrev pub lent : Tables
+lent = workedBatch 8 .tables
+
+abbrev pub calls : List Call
+calls = forward lent 1 4 [] [] ∷ batch lent (header ++ (event 1 0 1 8 ++ event 1 0 1 8)) ∷ backward lent 2 6 [] [] ∷ batch (room 8) (file 1) ∷ []
+
+pub record CallCases : Type 0 where
+  pub all-added : length (plain 8) ≡ 11
+  -- "with the capacity lent": with three edge rows the event at 6 is refused
+  pub added-to-refused : length (plain 3) ≡ 9
+  pub none-added : addedBy (capacityOf (room 8)) [] [] ≡ []
+  pub first-added : addedBy (capacityOf (room 8)) [] (header ++ declare 0 1) ≡ records.Declaration (record { sort = 1; entity = entityNo 0 }) ∷ []
+  -- "The accepted events .. and the kept events", the last first
+  pub accepted-times : timesOf (accepted (itemsOf (plain 8))) ≡ 7 ∷ 6 ∷ 5 ∷ 4 ∷ 3 ∷ 2 ∷ 1 ∷ []
+  pub kept-times : timesOf (keptEvents (itemsOf (plain 8))) ≡ 6 ∷ 5 ∷ 2 ∷ 1 ∷ []
+  -- "the rows and counts that the records already in the plain list give when worked from none"
+  pub worked-counts : worked (plain 8) .counts ≡ counts 4 5 4 7 7
+  pub worked-entities : map (worked (plain 8) .entity) (0 ∷ 1 ∷ 2 ∷ 3 ∷ []) ≡ entityRow 0 0 ∷ entityRow 1 4 ∷ entityRow 0 2 ∷ entityRow 0 3 ∷ []
+  pub worked-versions : map (worked (plain 8) .version) (0 ∷ 1 ∷ 2 ∷ 3 ∷ 4 ∷ []) ≡ versionRow 0 0 0 none ∷ versionRow 1 0 1 none ∷ versionRow 2 0 6 none ∷ versionRow 3 0 0 none ∷ versionRow 1 5 5 1 ∷ []
+  pub worked-edges : map (worked (plain 8) .edge) (0 ∷ 1 ∷ 2 ∷ 3 ∷ []) ≡ edgeRow 0 1 1 1 ∷ edgeRow 1 2 2 2 ∷ edgeRow 3 4 1 5 ∷ edgeRow 4 2 2 6 ∷ []
+  -- "A batch adds .. the records of its file that this document's rules and refusals take in ..; a trace adds nothing."
+  pub calls-accepted : timesOf (accepted (itemsOf (plainAfter calls))) ≡ 8 ∷ 7 ∷ 6 ∷ 5 ∷ 4 ∷ 3 ∷ 2 ∷ 1 ∷ []
+  pub calls-kept : timesOf (keptEvents (itemsOf (plainAfter calls))) ≡ 6 ∷ 5 ∷ 2 ∷ 1 ∷ []
+  pub calls-counts : heldAfter calls .counts ≡ counts 4 5 4 8 8
+  pub calls-tables : heldAfter calls .tables ≡ lent

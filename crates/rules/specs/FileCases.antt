@@ -1,0 +1,102 @@
+-- Document 01, "The event file": each byte of the header and of a record just right and just wrong. The proof is in
+-- proofs/FileCases.antt.
+use Prim.Native.Nat.{ℕ}
+use mathlib.Core.Path.{_≡_}
+use mathlib.Core.List.{List, [], _∷_, _++_, map}
+use lib.ListN.{take, set, replicate}
+use Rattle.rows.specs.Rows.{entityNo}
+use Rattle.record.specs.declared.Kind.the-variants.{Read, Write, Load, Fork, Execve}
+use Rattle.record.specs.declared.Record.{Record}
+use Rattle.record.specs.declared.Record.the-variants as records
+use Rattle.record.specs.declared.Decoded.the-variants.{Whole}
+use Rattle.record.specs.Layout.{kindOf}
+use Rattle.record.specs.Decode.{decodeOf}
+use Rattle.record.specs.Encode.{encodeOf}
+use Rattle.rules.specs.declared.BatchAnswer.{BatchAnswer}
+use Rattle.rules.specs.Trail.{counts, freshCounts}
+use Rattle.rules.specs.Batch.{Batched, batchOf}
+use Rattle.rules.specs.Worked.{header, answer, room}
+use Rattle.rules.specs.Order.{noRows, declare, event}
+
+-- the refusal of a header with byte b at i, and of one cut to n bytes
+abbrev pub headerWith : ℕ → ℕ → ℕ
+headerWith i b = batchOf freshCounts noRows (set header i b) .answer .refusal
+
+abbrev pub headerOf : ℕ → ℕ
+headerOf n = batchOf freshCounts noRows (take n header) .answer .refusal
+
+-- bytes after a header, taken into a fresh trail
+abbrev pub takenIn : List ℕ → Batched
+takenIn bytes = batchOf freshCounts (room 8) (header ++ bytes)
+
+-- the declaration of object 0, with byte b at i
+abbrev pub declarationWith : ℕ → ℕ → ℕ
+declarationWith i b = takenIn (set (declare 0 0) i b) .answer .refusal
+
+-- object 0 and subject 1 are declared, then 1 reads 0 at time 1, with byte b at i
+abbrev pub readWith : ℕ → ℕ → Batched
+readWith i b = takenIn (declare 0 0 ++ (declare 1 1 ++ set (event 1 0 1 1) i b))
+
+abbrev pub readRefusal : ℕ → ℕ → ℕ
+readRefusal i b = readWith i b .answer .refusal
+
+-- a declaration, and n bytes of a second
+abbrev pub cutTo : ℕ → BatchAnswer
+cutTo n = takenIn (declare 0 0 ++ take n (declare 1 1)) .answer
+
+-- at the time of four bytes
+abbrev pub readAt : ℕ → ℕ → ℕ → ℕ → List ℕ
+readAt a b c d = take 8 (event 1 0 1 0) ++ (a ∷ b ∷ c ∷ d ∷ [])
+
+-- each number of a record has bytes of its own
+abbrev pub numbered : Record
+numbered = records.Event (record { kind = Load; source = entityNo 513; target = entityNo 1027; time = 134678021 })
+
+abbrev pub numberedBytes : List ℕ
+numberedBytes = 3 ∷ 0 ∷ 1 ∷ 2 ∷ 3 ∷ 4 ∷ 0 ∷ 0 ∷ 5 ∷ 6 ∷ 7 ∷ 8 ∷ []
+
+abbrev pub numberedSubject : Record
+numberedSubject = records.Declaration (record { sort = 1; entity = entityNo 1541 })
+
+abbrev pub numberedSubjectBytes : List ℕ
+numberedSubjectBytes = 0 ∷ 1 ∷ 5 ∷ 6 ∷ replicate 8 0
+
+pub record FileCases : Type 0 where
+  -- "Header, 8 bytes: hex 53 4C 54 ("SLT"), a 16-bit version, 1, then three zero bytes."
+  pub mark-0 : map (headerWith 0) (0x52 ∷ 0x53 ∷ 0x54 ∷ []) ≡ 1 ∷ 0 ∷ 1 ∷ []
+  pub mark-1 : map (headerWith 1) (0x4B ∷ 0x4C ∷ 0x4D ∷ []) ≡ 1 ∷ 0 ∷ 1 ∷ []
+  pub mark-2 : map (headerWith 2) (0x53 ∷ 0x54 ∷ 0x55 ∷ []) ≡ 1 ∷ 0 ∷ 1 ∷ []
+  pub version-low : map (headerWith 3) (0 ∷ 1 ∷ 2 ∷ 255 ∷ []) ≡ 2 ∷ 0 ∷ 2 ∷ 2 ∷ []
+  pub version-high : map (headerWith 4) (0 ∷ 1 ∷ 255 ∷ []) ≡ 0 ∷ 2 ∷ 2 ∷ []
+  pub zero-5 : map (headerWith 5) (0 ∷ 1 ∷ 255 ∷ []) ≡ 0 ∷ 1 ∷ 1 ∷ []
+  pub zero-6 : map (headerWith 6) (0 ∷ 1 ∷ 255 ∷ []) ≡ 0 ∷ 1 ∷ 1 ∷ []
+  pub zero-7 : map (headerWith 7) (0 ∷ 1 ∷ 255 ∷ []) ≡ 0 ∷ 1 ∷ 1 ∷ []
+  pub header-length : map headerOf (0 ∷ 4 ∷ 7 ∷ 8 ∷ []) ≡ 1 ∷ 1 ∷ 1 ∷ 0 ∷ []
+  -- a declaration with 1, and with 255, at each byte in turn: a read of entity 0, a sort, a number that is not the next,
+  -- and zero fields
+  pub declaration-1 : map (λ i. declarationWith i 1) (0 ∷ 1 ∷ 2 ∷ 3 ∷ 4 ∷ 5 ∷ 6 ∷ 7 ∷ 8 ∷ 9 ∷ 10 ∷ 11 ∷ []) ≡ 5 ∷ 0 ∷ 6 ∷ 6 ∷ replicate 8 4
+  pub declaration-255 : map (λ i. declarationWith i 255) (0 ∷ 1 ∷ 2 ∷ 3 ∷ 4 ∷ 5 ∷ 6 ∷ 7 ∷ 8 ∷ 9 ∷ 10 ∷ 11 ∷ []) ≡ 4 ∷ 4 ∷ 6 ∷ 6 ∷ replicate 8 4
+  -- "sort, 0 object or 1 subject"; "sort above 1"
+  pub sort : map (declarationWith 1) (0 ∷ 1 ∷ 2 ∷ []) ≡ 0 ∷ 0 ∷ 4 ∷ []
+  -- an event with 1, and with 255, at each byte in turn: kind, a zero field, source, target, a zero field, time
+  pub event-1 : map (λ i. readRefusal i 1) (0 ∷ 1 ∷ 2 ∷ 3 ∷ 4 ∷ 5 ∷ 6 ∷ 7 ∷ 8 ∷ 9 ∷ 10 ∷ 11 ∷ []) ≡ 0 ∷ 4 ∷ 7 ∷ 5 ∷ 0 ∷ 5 ∷ 4 ∷ 4 ∷ replicate 4 0
+  pub event-255 : map (λ i. readRefusal i 255) (0 ∷ 1 ∷ 2 ∷ 3 ∷ 4 ∷ 5 ∷ 6 ∷ 7 ∷ 8 ∷ 9 ∷ 10 ∷ 11 ∷ []) ≡ 4 ∷ 4 ∷ 5 ∷ 5 ∷ 5 ∷ 5 ∷ 4 ∷ 4 ∷ replicate 4 0
+  -- "Kind above 5": read, load and execve of 0 by 1; a write and a fork have the wrong sorts; kind 0 is a declaration
+  pub kind : map (readRefusal 0) (0 ∷ 1 ∷ 2 ∷ 3 ∷ 4 ∷ 5 ∷ 6 ∷ 7 ∷ []) ≡ 4 ∷ 0 ∷ 8 ∷ 0 ∷ 8 ∷ 0 ∷ 4 ∷ 4 ∷ []
+  pub kinds : map kindOf (1 ∷ 2 ∷ 3 ∷ 4 ∷ 5 ∷ []) ≡ Read ∷ Write ∷ Load ∷ Fork ∷ Execve ∷ []
+  -- "Multi-byte fields are little-endian.", past 8, 16 and 24 bits
+  pub time-bytes : map (λ i. readWith i 2 .counts .last) (8 ∷ 9 ∷ 10 ∷ 11 ∷ []) ≡ 2 ∷ 513 ∷ 131073 ∷ 33554433 ∷ []
+  pub decoded-event : decodeOf numberedBytes ≡ Whole numbered
+  pub decoded-declaration : decodeOf numberedSubjectBytes ≡ Whole numberedSubject
+  pub encoded-event : encodeOf numbered ≡ numberedBytes
+  pub encoded-declaration : encodeOf numberedSubject ≡ numberedSubjectBytes
+  pub encoded-kinds : map (λ k. take 1 (encodeOf (records.Event (record { kind = k; source = entityNo 0; target = entityNo 1; time = 1 })))) (Read ∷ Write ∷ Load ∷ Fork ∷ Execve ∷ []) ≡ (1 ∷ []) ∷ (2 ∷ []) ∷ (3 ∷ []) ∷ (4 ∷ []) ∷ (5 ∷ []) ∷ []
+  -- the greatest time, and none above it
+  pub greatest-time : takenIn (declare 0 0 ++ (declare 1 1 ++ readAt 255 255 255 255)) .counts ≡ counts 2 2 1 1 4294967295
+  pub after-greatest : takenIn (declare 0 0 ++ (declare 1 1 ++ (readAt 255 255 255 255 ++ readAt 255 255 255 255))) .answer ≡ answer 9 3
+  -- "One to 11 bytes remain."
+  pub cut-short : map cutTo (0 ∷ 1 ∷ 2 ∷ 3 ∷ 4 ∷ 5 ∷ 6 ∷ 7 ∷ 8 ∷ 9 ∷ 10 ∷ 11 ∷ 12 ∷ []) ≡ answer 0 1 ∷ (replicate 11 (answer 3 1) ++ (answer 0 2 ∷ []))
+  -- "Records are taken in order until the first one refused." One that cannot be read, one that is not taken in
+  pub first-refused-4 : takenIn (declare 0 0 ++ (declare 1 2 ++ declare 1 1)) .answer ≡ answer 4 1
+  pub first-refused-6 : takenIn (declare 0 0 ++ (declare 2 1 ++ declare 1 2)) .answer ≡ answer 6 1
+  pub first-refused-3 : takenIn (declare 0 0 ++ (declare 2 1 ++ (0 ∷ []))) .answer ≡ answer 6 1

@@ -1,0 +1,75 @@
+-- Document 01, "One record": which events repeat, which widen a version and which make one, with every number of the tables
+-- that they leave. The proof is in proofs/RecordCases.antt.
+use Prim.Native.Nat.{ℕ}
+use mathlib.Core.Path.{_≡_}
+use mathlib.Core.List.{List, [], _∷_, _++_, map}
+use lib.ListN.{replicate}
+use Rattle.rows.specs.declared.Counts.{Counts}
+use Rattle.rows.specs.Rows.{entityNo}
+use Rattle.record.specs.declared.Kind.the-variants.{Read}
+use Rattle.rules.specs.declared.Found.the-variants.{At}
+use Rattle.rules.specs.Trail.{tables, trailOf, counts, freshCounts, none}
+use Rattle.rules.specs.Decide.{edgeNo, repeatOf}
+use Rattle.rules.specs.Batch.{Batched, batchOf}
+use Rattle.rules.specs.Worked.{header, declarations, file, room, answer}
+use Rattle.rules.specs.Order.{declare, event}
+use Rattle.rules.specs.FileCases.{takenIn}
+
+-- the worked file and one event more
+abbrev pub workedThen : List ℕ → Counts
+workedThen e = batchOf freshCounts (room 8) (file 1 ++ e) .counts
+
+-- an event of kind k from object 0 to subject 1, then one of kind l: how many edges are kept
+abbrev pub keptOfTwo : ℕ → ℕ → ℕ
+keptOfTwo k l = takenIn (declare 0 0 ++ (declare 1 1 ++ (event k 0 1 1 ++ event l 0 1 2))) .counts .edges
+
+-- the worked trail's entities. 1 reads 0, writes 2, reads 2 as a new version, which 3 widens, and writes 2, which is new
+-- as well; then an execve makes a third version of 1
+abbrev pub grownEvents : List ℕ
+grownEvents = event 1 0 1 1 ++ (event 2 1 2 2 ++ (event 1 2 1 3 ++ (event 1 3 1 4 ++ (event 2 1 2 5 ++ event 5 0 1 6))))
+
+unfoldable pub grown : Batched
+grown = takenIn (declarations ++ grownEvents)
+
+unfoldable pub grownThenDeclared : Batched
+grownThenDeclared = takenIn (declarations ++ (grownEvents ++ declare 4 1))
+
+pub record RecordCases : Type 0 where
+  -- "A declaration adds the entity and its first version (start 0, end 0, no previous)."
+  pub declared-counts : takenIn (declare 0 1) .counts ≡ counts 1 1 0 0 0
+  pub declared-tables : takenIn (declare 0 1) .tables ≡ tables (1 ∷ 0 ∷ replicate 14 7) (0 ∷ 0 ∷ 0 ∷ none ∷ replicate 28 7) (replicate 32 7)
+  -- "for kinds 1, 2, 3, if an edge of any kind goes from the latest version of u to some version of v": to its latest ..
+  pub after-read : map (keptOfTwo 1) (1 ∷ 3 ∷ 5 ∷ []) ≡ 1 ∷ 1 ∷ 2 ∷ []
+  pub after-load : map (keptOfTwo 3) (1 ∷ 3 ∷ 5 ∷ []) ≡ 1 ∷ 1 ∷ 2 ∷ []
+  pub after-execve : map (keptOfTwo 5) (1 ∷ 3 ∷ 5 ∷ []) ≡ 1 ∷ 1 ∷ 2 ∷ []
+  pub newest-repeated : repeatOf (trailOf (counts 2 2 2 2 2) (tables (0 ∷ 0 ∷ 1 ∷ 1 ∷ []) (0 ∷ 0 ∷ 0 ∷ none ∷ 1 ∷ 0 ∷ 2 ∷ none ∷ []) (0 ∷ 1 ∷ 5 ∷ 1 ∷ 0 ∷ 1 ∷ 5 ∷ 2 ∷ []))) (record { kind = Read; source = entityNo 0; target = entityNo 1; time = 3 }) ≡ At (edgeNo 1)
+  pub two-writes : takenIn (declare 0 1 ++ (declare 1 0 ++ (event 2 0 1 1 ++ event 2 0 1 2))) .counts ≡ counts 2 2 1 2 2
+  pub two-forks : takenIn (declare 0 1 ++ (declare 1 1 ++ (event 4 0 1 1 ++ event 4 0 1 2))) .counts ≡ counts 2 2 2 2 2
+  -- .. and to an older one: the stager's first version was read into, and is no longer its latest
+  pub into-older-read : workedThen (event 1 0 1 8) ≡ counts 4 5 4 8 8
+  pub into-older-load : workedThen (event 3 0 1 8) ≡ counts 4 5 4 8 8
+  pub into-older-execve : workedThen (event 5 0 1 8) ≡ counts 4 6 5 8 8
+  -- 2. and 3. "If v's latest version has no outgoing edge": an older one's edges do not count
+  pub grown-answer : grown .answer ≡ answer 0 10
+  pub grown-counts : grown .counts ≡ counts 4 7 6 6 6
+  pub grown-entities : grown .tables .entities ≡ 0 ∷ 0 ∷ 1 ∷ 6 ∷ 0 ∷ 5 ∷ 0 ∷ 3 ∷ replicate 8 7
+  pub grown-versions : grown .tables .versions ≡
+      0 ∷ 0 ∷ 0 ∷ none
+      ∷ 1 ∷ 0 ∷ 1 ∷ none
+      ∷ 2 ∷ 0 ∷ 2 ∷ none
+      ∷ 3 ∷ 0 ∷ 0 ∷ none
+      ∷ 1 ∷ 3 ∷ 4 ∷ 1
+      ∷ 2 ∷ 5 ∷ 5 ∷ 2
+      ∷ 1 ∷ 6 ∷ 6 ∷ 4
+      ∷ replicate 4 7
+  pub grown-edges : grown .tables .edges ≡
+      0 ∷ 1 ∷ 1 ∷ 1
+      ∷ 1 ∷ 2 ∷ 2 ∷ 2
+      ∷ 2 ∷ 4 ∷ 1 ∷ 3
+      ∷ 3 ∷ 4 ∷ 1 ∷ 4
+      ∷ 4 ∷ 5 ∷ 2 ∷ 5
+      ∷ 0 ∷ 6 ∷ 5 ∷ 6
+      ∷ replicate 8 7
+  -- an entity declared after events: its first version's number is not its own
+  pub late-counts : grownThenDeclared .counts ≡ counts 5 8 6 6 6
+  pub late-entities : grownThenDeclared .tables .entities ≡ 0 ∷ 0 ∷ 1 ∷ 6 ∷ 0 ∷ 5 ∷ 0 ∷ 3 ∷ 1 ∷ 7 ∷ replicate 6 7
