@@ -6,9 +6,6 @@ use Rattle.rules.proofs.Computed.{computed}
 pub listingCases : ListingCases
 unfolding computed
 listingCases = record {
-  zeros-32767 = refl;
-  zeros-32768 = refl;
-  zeros-32769 = refl;
   file-32767 = refl;
   file-32768 = refl;
   file-32769 = refl;

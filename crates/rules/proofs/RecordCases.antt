@@ -24,4 +24,6 @@ recordCases = record {
   grown-edges = refl;
   late-counts = refl;
   late-entities = refl;
+  late-version = refl;
+  refused-step = refl;
 }

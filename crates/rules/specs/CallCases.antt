@@ -3,20 +3,19 @@
 use Prim.Native.Nat.{ℕ}
 use mathlib.Core.Path.{_≡_}
 use mathlib.Core.List.{List, [], _∷_, _++_, map}
-use lib.ListN.{length}
-use Rattle.rows.specs.Rows.{entityNo}
+use lib.ListN.{length, set}
+use Rattle.rows.specs.Rows.{entityRow, versionRow, edgeRow, entityNo}
 use Rattle.record.specs.declared.Event.{Event}
 use Rattle.record.specs.declared.Record.{Record}
 use Rattle.record.specs.declared.Record.the-variants as records
 use Rattle.rules.specs.Trail.{Tables, capacityOf, counts, none}
-use Rattle.rules.specs.Record.{entityRow, versionRow, edgeRow}
 use Rattle.rules.specs.History.{accepted, keptEvents}
 use Rattle.rules.specs.PlainList.{worked, itemsOf, addedBy}
 use Rattle.rules.specs.Calls.{Call, batch, backward, forward, heldAfter, plainAfter}
 use Rattle.rules.specs.Worked.{header, file, room, batch as workedBatch}
 use Rattle.rules.specs.Order.{declare, event}
 
--- the records of the worked file with n edge rows, and with one record more
+-- the records of the worked file that are taken in with n edge rows, the last first
 abbrev pub plain : ℕ → List Record
 plain n = addedBy (capacityOf (room n)) [] (file 1)
 
@@ -34,7 +33,7 @@ pub record CallCases : Type 0 where
   pub all-added : length (plain 8) ≡ 11
   -- "with the capacity lent": with three edge rows the event at 6 is refused
   pub added-to-refused : length (plain 3) ≡ 9
-  pub none-added : addedBy (capacityOf (room 8)) [] [] ≡ []
+  pub none-added : map (addedBy (capacityOf (room 8)) []) ([] ∷ (set header 0 0 ++ declare 0 1) ∷ (header ++ declare 1 1) ∷ []) ≡ [] ∷ [] ∷ [] ∷ []
   pub first-added : addedBy (capacityOf (room 8)) [] (header ++ declare 0 1) ≡ records.Declaration (record { sort = 1; entity = entityNo 0 }) ∷ []
   -- "The accepted events .. and the kept events", the last first
   pub accepted-times : timesOf (accepted (itemsOf (plain 8))) ≡ 7 ∷ 6 ∷ 5 ∷ 4 ∷ 3 ∷ 2 ∷ 1 ∷ []

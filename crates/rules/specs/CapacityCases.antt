@@ -3,7 +3,7 @@
 use Prim.Native.Nat.{ℕ}
 use mathlib.Core.Path.{_≡_}
 use mathlib.Core.Bool.{true, false}
-use mathlib.Core.List.{List, [], _∷_, map}
+use mathlib.Core.List.{[], _∷_, map}
 use lib.ListN.{replicate}
 use Rattle.refusals.specs.Refusals.{firstOf, numberOf}
 use Rattle.rows.specs.Rows.{entityNo}
@@ -12,7 +12,7 @@ use Rattle.record.specs.declared.Kind.the-variants.{Write}
 use Rattle.record.specs.declared.Record.the-variants as records
 use Rattle.rules.specs.declared.Decision.{Decision}
 use Rattle.rules.specs.declared.Decision.the-variants.{Repeat, Widen, Renew}
-use Rattle.rules.specs.Trail.{Tables, tables, Capacity, capacityOf, Trail, trailOf, counts}
+use Rattle.rules.specs.Trail.{tables, Capacity, capacityOf, Trail, trailOf, counts}
 use Rattle.rules.specs.Decide.{edgeNo}
 use Rattle.rules.specs.Record.{eventRefusals, refusalOf}
 use Rattle.rules.specs.Sound.{soundCounts}

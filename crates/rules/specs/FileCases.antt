@@ -3,8 +3,9 @@
 use Prim.Native.Nat.{ℕ}
 use mathlib.Core.Path.{_≡_}
 use mathlib.Core.List.{List, [], _∷_, _++_, map}
-use lib.ListN.{take, set, replicate}
+use lib.ListN.{getD, take, set, replicate}
 use Rattle.rows.specs.Rows.{entityNo}
+use Rattle.record.specs.declared.Kind.{Kind}
 use Rattle.record.specs.declared.Kind.the-variants.{Read, Write, Load, Fork, Execve}
 use Rattle.record.specs.declared.Record.{Record}
 use Rattle.record.specs.declared.Record.the-variants as records
@@ -44,22 +45,25 @@ readRefusal i b = readWith i b .answer .refusal
 abbrev pub cutTo : ℕ → BatchAnswer
 cutTo n = takenIn (declare 0 0 ++ take n (declare 1 1)) .answer
 
--- at the time of four bytes
+-- 1 reads 0 at the time of four bytes
 abbrev pub readAt : ℕ → ℕ → ℕ → ℕ → List ℕ
 readAt a b c d = take 8 (event 1 0 1 0) ++ (a ∷ b ∷ c ∷ d ∷ [])
 
--- each number of a record has bytes of its own
+-- records, no two bytes of which are alike but the zero fields, and their bytes
 abbrev pub numbered : Record
-numbered = records.Event (record { kind = Load; source = entityNo 513; target = entityNo 1027; time = 134678021 })
+numbered = records.Event (record { kind = Load; source = entityNo 513; target = entityNo 1033; time = 134678021 })
 
 abbrev pub numberedBytes : List ℕ
-numberedBytes = 3 ∷ 0 ∷ 1 ∷ 2 ∷ 3 ∷ 4 ∷ 0 ∷ 0 ∷ 5 ∷ 6 ∷ 7 ∷ 8 ∷ []
+numberedBytes = 3 ∷ 0 ∷ 1 ∷ 2 ∷ 9 ∷ 4 ∷ 0 ∷ 0 ∷ 5 ∷ 6 ∷ 7 ∷ 8 ∷ []
 
 abbrev pub numberedSubject : Record
 numberedSubject = records.Declaration (record { sort = 1; entity = entityNo 1541 })
 
 abbrev pub numberedSubjectBytes : List ℕ
 numberedSubjectBytes = 0 ∷ 1 ∷ 5 ∷ 6 ∷ replicate 8 0
+
+abbrev pub encodedKind : Kind → ℕ
+encodedKind k = getD (encodeOf (records.Event (record { kind = k; source = entityNo 0; target = entityNo 1; time = 1 }))) 0 0
 
 pub record FileCases : Type 0 where
   -- "Header, 8 bytes: hex 53 4C 54 ("SLT"), a 16-bit version, 1, then three zero bytes."
@@ -90,7 +94,7 @@ pub record FileCases : Type 0 where
   pub decoded-declaration : decodeOf numberedSubjectBytes ≡ Whole numberedSubject
   pub encoded-event : encodeOf numbered ≡ numberedBytes
   pub encoded-declaration : encodeOf numberedSubject ≡ numberedSubjectBytes
-  pub encoded-kinds : map (λ k. take 1 (encodeOf (records.Event (record { kind = k; source = entityNo 0; target = entityNo 1; time = 1 })))) (Read ∷ Write ∷ Load ∷ Fork ∷ Execve ∷ []) ≡ (1 ∷ []) ∷ (2 ∷ []) ∷ (3 ∷ []) ∷ (4 ∷ []) ∷ (5 ∷ []) ∷ []
+  pub encoded-kinds : map encodedKind (Read ∷ Write ∷ Load ∷ Fork ∷ Execve ∷ []) ≡ 1 ∷ 2 ∷ 3 ∷ 4 ∷ 5 ∷ []
   -- the greatest time, and none above it
   pub greatest-time : takenIn (declare 0 0 ++ (declare 1 1 ++ readAt 255 255 255 255)) .counts ≡ counts 2 2 1 1 4294967295
   pub after-greatest : takenIn (declare 0 0 ++ (declare 1 1 ++ (readAt 255 255 255 255 ++ readAt 255 255 255 255))) .answer ≡ answer 9 3

@@ -9,6 +9,7 @@ use Rattle.rules.specs.KeptLog.{KeptLog, keptLogOf}
 use Rattle.rules.specs.Worked.{header}
 use Rattle.rules.specs.Order.{noRows, declare, event, used, full, unsound}
 use Rattle.rules.specs.SoundCases.{soundRows, versionsUsed}
+use Rattle.rules.specs.FileCases.{readAt}
 
 -- an output of n bytes is lent: a fresh trail, and the sound rows of SoundCases
 abbrev pub freshLog : ℕ → KeptLog
@@ -30,6 +31,10 @@ soundDeclared = declare 0 0 ++ (declare 1 1 ++ (declare 2 1 ++ declare 3 0))
 abbrev pub soundEvents : List ℕ
 soundEvents = event 1 0 1 2 ++ (event 2 1 0 4 ++ (event 3 0 1 5 ++ (event 4 1 2 8 ++ event 5 0 1 9)))
 
+-- object 0 was read by subject 1 at a time of four bytes
+abbrev pub lateLog : KeptLog
+lateLog = keptLogOf (counts 2 2 1 1 67305985) (tables (full .entities) (full .versions) (0 ∷ 1 ∷ 1 ∷ 67305985 ∷ [])) (replicate 44 9)
+
 pub record LogCases : Type 0 where
   pub fresh-exact : freshLog 8 ≡ logOf header 8
   pub fresh-short : freshLog 7 ≡ logRefused 15 7
@@ -43,4 +48,4 @@ pub record LogCases : Type 0 where
   -- declarations alone
   pub no-edge : keptLogOf (counts 2 2 0 0 5) full (replicate 32 9) ≡ logOf (header ++ (declare 0 0 ++ declare 1 1)) 32
   -- a time past 24 bits
-  pub four-bytes : keptLogOf (counts 2 2 1 1 67305985) (tables (full .entities) (full .versions) (0 ∷ 1 ∷ 1 ∷ 67305985 ∷ [])) (replicate 44 9) .out ≡ header ++ (declare 0 0 ++ (declare 1 1 ++ (1 ∷ 0 ∷ 0 ∷ 0 ∷ 1 ∷ 0 ∷ 0 ∷ 0 ∷ 1 ∷ 2 ∷ 3 ∷ 4 ∷ [])))
+  pub four-bytes : lateLog .out ≡ header ++ (declare 0 0 ++ (declare 1 1 ++ readAt 1 2 3 4))

@@ -3,17 +3,31 @@
 use Prim.Native.Nat.{ℕ}
 use mathlib.Core.Path.{_≡_}
 use mathlib.Core.List.{List, [], _∷_, _++_, map}
-use lib.ListN.{replicate}
+use lib.ListN.{take, replicate}
+use Rattle.refusals.specs.declared.Refusal.the-variants.{NotLater}
+use Rattle.refusals.specs.declared.Checked.the-variants.{Refused}
 use Rattle.rows.specs.declared.Counts.{Counts}
-use Rattle.rows.specs.Rows.{entityNo}
+use Rattle.rows.specs.Rows.{entityRow, versionRow, entityNo, entityAt, versionAt}
 use Rattle.record.specs.declared.Kind.the-variants.{Read}
+use Rattle.record.specs.declared.Event.{Event}
+use Rattle.record.specs.declared.Record.the-variants as records
 use Rattle.rules.specs.declared.Found.the-variants.{At}
-use Rattle.rules.specs.Trail.{tables, trailOf, counts, freshCounts, none}
+use Rattle.rules.specs.Trail.{Trail, tables, trailOf, counts, freshCounts, none}
 use Rattle.rules.specs.Decide.{edgeNo, repeatOf}
+use Rattle.rules.specs.Record.{stepOf}
 use Rattle.rules.specs.Batch.{Batched, batchOf}
-use Rattle.rules.specs.Worked.{header, declarations, file, room, answer}
-use Rattle.rules.specs.Order.{declare, event}
+use Rattle.rules.specs.Worked.{declarations, file, room, answer}
+use Rattle.rules.specs.Order.{declare, event, full}
+use Rattle.rules.specs.SoundCases.{versionsUsed}
 use Rattle.rules.specs.FileCases.{takenIn}
+use Rattle.rules.specs.RefusalCases.{longer}
+
+-- two edges go from version 0 to version 1
+abbrev pub twoEdges : Trail
+twoEdges = trailOf (counts 2 2 2 2 5) (tables (full .entities) (full .versions) (0 ∷ 1 ∷ 5 ∷ 1 ∷ 0 ∷ 1 ∷ 5 ∷ 2 ∷ []))
+
+abbrev pub read : ℕ → ℕ → ℕ → Event
+read u v t = record { kind = Read; source = entityNo u; target = entityNo v; time = t }
 
 -- the worked file and one event more
 abbrev pub workedThen : List ℕ → Counts
@@ -23,16 +37,17 @@ workedThen e = batchOf freshCounts (room 8) (file 1 ++ e) .counts
 abbrev pub keptOfTwo : ℕ → ℕ → ℕ
 keptOfTwo k l = takenIn (declare 0 0 ++ (declare 1 1 ++ (event k 0 1 1 ++ event l 0 1 2))) .counts .edges
 
--- the worked trail's entities. 1 reads 0, writes 2, reads 2 as a new version, which 3 widens, and writes 2, which is new
--- as well; then an execve makes a third version of 1
+-- the worked trail's entities. 1 reads 0 and writes 2; it reads 2, which makes its second version, and 3, which widens
+-- that; it writes 2, which makes the second of 2; an execve makes its third
 abbrev pub grownEvents : List ℕ
 grownEvents = event 1 0 1 1 ++ (event 2 1 2 2 ++ (event 1 2 1 3 ++ (event 1 3 1 4 ++ (event 2 1 2 5 ++ event 5 0 1 6))))
 
 unfoldable pub grown : Batched
 grown = takenIn (declarations ++ grownEvents)
 
+-- subject 4 is declared in place of the last event
 unfoldable pub grownThenDeclared : Batched
-grownThenDeclared = takenIn (declarations ++ (grownEvents ++ declare 4 1))
+grownThenDeclared = takenIn (declarations ++ (take 60 grownEvents ++ declare 4 1))
 
 pub record RecordCases : Type 0 where
   -- "A declaration adds the entity and its first version (start 0, end 0, no previous)."
@@ -42,7 +57,8 @@ pub record RecordCases : Type 0 where
   pub after-read : map (keptOfTwo 1) (1 ∷ 3 ∷ 5 ∷ []) ≡ 1 ∷ 1 ∷ 2 ∷ []
   pub after-load : map (keptOfTwo 3) (1 ∷ 3 ∷ 5 ∷ []) ≡ 1 ∷ 1 ∷ 2 ∷ []
   pub after-execve : map (keptOfTwo 5) (1 ∷ 3 ∷ 5 ∷ []) ≡ 1 ∷ 1 ∷ 2 ∷ []
-  pub newest-repeated : repeatOf (trailOf (counts 2 2 2 2 2) (tables (0 ∷ 0 ∷ 1 ∷ 1 ∷ []) (0 ∷ 0 ∷ 0 ∷ none ∷ 1 ∷ 0 ∷ 2 ∷ none ∷ []) (0 ∷ 1 ∷ 5 ∷ 1 ∷ 0 ∷ 1 ∷ 5 ∷ 2 ∷ []))) (record { kind = Read; source = entityNo 0; target = entityNo 1; time = 3 }) ≡ At (edgeNo 1)
+  -- where two edges do, the newest is found
+  pub newest-repeated : repeatOf twoEdges (read 0 1 3) ≡ At (edgeNo 1)
   pub two-writes : takenIn (declare 0 1 ++ (declare 1 0 ++ (event 2 0 1 1 ++ event 2 0 1 2))) .counts ≡ counts 2 2 1 2 2
   pub two-forks : takenIn (declare 0 1 ++ (declare 1 1 ++ (event 4 0 1 1 ++ event 4 0 1 2))) .counts ≡ counts 2 2 2 2 2
   -- .. and to an older one: the stager's first version was read into, and is no longer its latest
@@ -71,5 +87,8 @@ pub record RecordCases : Type 0 where
       ∷ 0 ∷ 6 ∷ 5 ∷ 6
       ∷ replicate 8 7
   -- an entity declared after events: its first version's number is not its own
-  pub late-counts : grownThenDeclared .counts ≡ counts 5 8 6 6 6
-  pub late-entities : grownThenDeclared .tables .entities ≡ 0 ∷ 0 ∷ 1 ∷ 6 ∷ 0 ∷ 5 ∷ 0 ∷ 3 ∷ 1 ∷ 7 ∷ replicate 6 7
+  pub late-counts : grownThenDeclared .counts ≡ counts 5 7 5 5 5
+  pub late-entities : map (entityAt (grownThenDeclared .tables .entities)) (0 ∷ 1 ∷ 2 ∷ 3 ∷ 4 ∷ []) ≡ entityRow 0 0 ∷ entityRow 1 4 ∷ entityRow 0 5 ∷ entityRow 0 3 ∷ entityRow 1 6 ∷ []
+  pub late-version : versionAt (grownThenDeclared .tables .versions) 6 ≡ versionRow 4 0 0 none
+  -- a refused record leaves nothing of itself: a read that is not later, where there is room for it
+  pub refused-step : stepOf (versionsUsed 5) (longer 2 4 4) (records.Event (read 3 1 9)) ≡ record { checked = Refused NotLater; counts = versionsUsed 5; tables = longer 2 4 4 }

@@ -4,14 +4,22 @@ use Prim.Native.Nat.{ℕ}
 use mathlib.Core.Path.{_≡_}
 use mathlib.Core.List.{List, [], _∷_, _++_, map}
 use lib.ListN.{replicate}
+use Rattle.refusals.specs.declared.Refusal.{Refusal}
 use Rattle.refusals.specs.declared.Refusal.the-variants.{NotEventFile, WrongVersion, CutShort, BadField, Undeclared, NotNext, SourceIsTarget, WrongSort, NotLater, EntitiesFull, VersionsFull, EdgesFull, AcceptedFull, BufferShort, OutputShort, Unsound}
 use Rattle.refusals.specs.Refusals.{refusalNo}
 use Rattle.rows.specs.declared.Counts.{Counts}
-use Rattle.rules.specs.Trail.{Tables, tables, counts, freshCounts}
+use Rattle.rules.specs.Trail.{Tables, tables, counts}
 use Rattle.rules.specs.Batch.{Batched, batchOf}
 use Rattle.rules.specs.Worked.{header, answer, file}
 use Rattle.rules.specs.Order.{declare, event, used, full, unsound}
 use Rattle.rules.specs.SoundCases.{entityRows, versionRows, edgeRows, soundRows, versionsUsed}
+
+-- "Refused because of the input", "Refused because of the state"
+abbrev pub refusals : List Refusal
+refusals =
+    NotEventFile ∷ WrongVersion ∷ CutShort ∷ BadField ∷ Undeclared ∷ NotNext ∷ SourceIsTarget ∷ WrongSort ∷ NotLater
+    ∷ EntitiesFull ∷ VersionsFull ∷ EdgesFull ∷ AcceptedFull ∷ BufferShort ∷ OutputShort ∷ Unsound
+    ∷ []
 
 -- the sound rows of SoundCases, in tables with e, v and d numbers more
 abbrev pub longer : ℕ → ℕ → ℕ → Tables
@@ -49,7 +57,7 @@ abbrev pub fullRefusal : ℕ → ℕ → ℕ → ℕ
 fullRefusal u v k = refusalIn (versionsUsed 5) soundRows (event k u v 10)
 
 pub record RefusalCases : Type 0 where
-  pub refusal-numbers : map refusalNo (NotEventFile ∷ WrongVersion ∷ CutShort ∷ BadField ∷ Undeclared ∷ NotNext ∷ SourceIsTarget ∷ WrongSort ∷ NotLater ∷ EntitiesFull ∷ VersionsFull ∷ EdgesFull ∷ AcceptedFull ∷ BufferShort ∷ OutputShort ∷ Unsound ∷ []) ≡ 1 ∷ 2 ∷ 3 ∷ 4 ∷ 5 ∷ 6 ∷ 7 ∷ 8 ∷ 9 ∷ 10 ∷ 11 ∷ 12 ∷ 13 ∷ 14 ∷ 15 ∷ 16 ∷ []
+  pub refusal-numbers : map refusalNo refusals ≡ 1 ∷ 2 ∷ 3 ∷ 4 ∷ 5 ∷ 6 ∷ 7 ∷ 8 ∷ 9 ∷ 10 ∷ 11 ∷ 12 ∷ 13 ∷ 14 ∷ 15 ∷ 16 ∷ []
   -- "6. Declared number is not the next."
   pub next-number : map declareRefusal (0 ∷ 3 ∷ 4 ∷ 5 ∷ []) ≡ 6 ∷ 6 ∷ 0 ∷ 6 ∷ []
   -- "5. Entity not declared." "7. Source equals target."

@@ -5,9 +5,8 @@ use mathlib.Core.Bool.{Bool, true, false}
 use mathlib.Core.List.{List, [], _∷_, _++_, map}
 use lib.ListN.{replicate}
 use Rattle.rows.specs.declared.Counts.{Counts}
-use Rattle.rows.specs.Rows.{putEntity, putVersion, putEdge}
-use Rattle.rules.specs.Trail.{Tables, tables, Capacity, capacityOf, trailOf, counts, freshCounts, none}
-use Rattle.rules.specs.Record.{entityRow, versionRow, edgeRow}
+use Rattle.rows.specs.Rows.{entityRow, versionRow, edgeRow, putEntity, putVersion, putEdge}
+use Rattle.rules.specs.Trail.{Tables, tables, capacityOf, trailOf, counts, freshCounts, none}
 use Rattle.rules.specs.Sound.{isSound}
 
 -- object 0, subjects 1 and 2, object 3; version 3 is subject 1's second; an edge of each kind
@@ -39,6 +38,7 @@ soundRows = tables entityRows versionRows edgeRows
 abbrev pub versionsUsed : ℕ → Counts
 versionsUsed n = counts 4 n 5 7 9
 
+-- whether the tables are sound: with given counts; in a capacity of e, v and d rows; with n events accepted
 abbrev pub soundWith : Counts → Tables → Bool
 soundWith c t = isSound (capacityOf t) (trailOf c t)
 
@@ -48,7 +48,7 @@ soundIn e v d = isSound (record { entities = e; versions = v; edges = d }) (trai
 abbrev pub acceptedIs : ℕ → Bool
 acceptedIs n = soundWith (counts 4 5 5 n 9) soundRows
 
--- row k of the entities has sort s and latest version l; of the versions, of the edges
+-- with another row k of the entities, of the versions, of the edges
 abbrev pub entityIs : ℕ → ℕ → ℕ → Bool
 entityIs k s l = soundWith (versionsUsed 5) (tables (putEntity entityRows k (entityRow s l)) versionRows edgeRows)
 
@@ -58,7 +58,7 @@ versionIs k x s t p = soundWith (versionsUsed 5) (tables entityRows (putVersion 
 abbrev pub edgeIs : ℕ → ℕ → ℕ → ℕ → ℕ → Bool
 edgeIs k f o n t = soundWith (versionsUsed 5) (tables entityRows versionRows (putEdge edgeRows k (edgeRow f o n t)))
 
--- a sixth version row, of entity x, that is in use when n is 6; named as entity 3's latest, and by the first edge
+-- with a sixth version row, in use when n is 6: named by no row, as the latest of entity 3, and by the first edge
 abbrev pub sixVersions : ℕ → ℕ → ℕ → ℕ → List ℕ
 sixVersions x s t p = versionRows ++ (x ∷ s ∷ t ∷ p ∷ [])
 

@@ -3,12 +3,13 @@ use Prim.Native.Nat.{ℕ}
 use mathlib.Core.Path.{_≡_}
 use mathlib.Core.List.{List, [], _∷_, _++_, map}
 use lib.ListN.{replicate}
-use Rattle.rows.specs.declared.Counts.{Counts}
+use Rattle.rows.specs.Rows.{entityRow, putEntity}
 use Rattle.rules.specs.Trail.{Tables, tables, counts, none}
 use Rattle.rules.specs.Batch.{Batched}
+use Rattle.rules.specs.Start.{greatestOr}
 use Rattle.rules.specs.Backward.{BackwardTrace, backwardOf}
 use Rattle.rules.specs.Forward.{ForwardTrace, forwardOf}
-use Rattle.rules.specs.Order.{declare, event, used, full, unsound}
+use Rattle.rules.specs.Order.{declare, event, used, unsound}
 use Rattle.rules.specs.SoundCases.{entityRows, edgeRows, sixVersions, versionsUsed}
 use Rattle.rules.specs.FileCases.{takenIn}
 use Rattle.rules.specs.RecordCases.{grown}
@@ -46,6 +47,10 @@ widenedLater t =
 -- sound, but grown by no file: versions 3 and 5 of subject 1 have the same previous, and 3 is its latest
 abbrev pub branched : Tables
 branched = tables entityRows (sixVersions 1 6 6 1) edgeRows
+
+-- the same with 5 as its latest, which no edge enters
+abbrev pub notEntered : Tables
+notEntered = tables (putEntity entityRows 1 (entityRow 1 5)) (sixVersions 1 6 6 1) edgeRows
 
 abbrev pub branchedBackward : ℕ → List ℕ
 branchedBackward t = backwardOf (versionsUsed 6) branched 1 t (replicate 6 9) (replicate 4 9) .work
@@ -95,6 +100,8 @@ pub record TraceCases : Type 0 where
   pub intake-0 : map (intakeIn 0) (0 ∷ 6 ∷ []) ≡ 0 ∷ 0 ∷ []
   pub intake-1 : map (intakeIn 1) (0 ∷ 1 ∷ 2 ∷ 3 ∷ 4 ∷ 5 ∷ 6 ∷ 7 ∷ []) ≡ 0 ∷ 1 ∷ 1 ∷ 3 ∷ 4 ∷ 4 ∷ 6 ∷ 6 ∷ []
   pub intake-2 : map (intakeIn 2) (1 ∷ 2 ∷ 4 ∷ 5 ∷ []) ≡ 0 ∷ 2 ∷ 2 ∷ 5 ∷ []
+  pub intake-start : forwardOf (versionsUsed 6) notEntered 1 9 (replicate 6 9) (replicate 4 9) .answer ≡ record { refusal = 0; count = 1; intake = 6 }
+  pub intake-greatest : greatestOr 7 (3 ∷ 5 ∷ 4 ∷ []) ≡ 5
   -- "from every other marked version, all entering edges", those later than t too
   pub later-edge : map (λ t. widenedLater t .work) (1 ∷ 2 ∷ []) ≡ (0 ∷ 0 ∷ 1 ∷ []) ∷ (1 ∷ 1 ∷ 1 ∷ []) ∷ []
   -- "on the chain from its latest through previous"
