@@ -7,7 +7,7 @@ use mathlib.Core.List.{List, [], _∷_, reverseAux-eq}
 use lib.ListN.{length, take}
 use Rattle.refusals.specs.declared.Checked.{Checked}
 use Rattle.refusals.specs.declared.Checked.the-variants.{Passed, Refused}
-use Rattle.refusals.specs.Refusals.{firstOf}
+use Rattle.refusals.specs.Refusals.{firstOf, numberOf}
 use Rattle.rows.specs.declared.Counts.{Counts}
 use Rattle.record.specs.declared.Record.{Record}
 use Rattle.record.specs.declared.Record.the-variants as records
@@ -20,12 +20,12 @@ use Rattle.rules.specs.Decide.{decisionOf}
 use Rattle.rules.specs.Record.{happened, changeOf, stepOf, refusalOf}
 use Rattle.rules.specs.Batch.{Batched, batched, ifRefused, contentsOf, takeIn, batchChecks, batchOf}
 use Rattle.rules.specs.History.{Item, itemOf, accepted}
-use Rattle.rules.specs.PlainList.{changed, worked, itemsOf, added, addedBy}
+use Rattle.rules.specs.PlainList.{changed, worked, itemsOf, added, addedBy, refusedAt, refusedBy}
 use Rattle.rules.specs.Calls.{Call, batch, heldAfter, Lent, AllLent, plainAfter}
 use Rattle.soundness.specs.Taken.{SortFits, Each}
 use Rattle.soundness.proofs.Decoded.{contents-fit}
 use Rattle.agreement.specs.Taken.{Within}
-use Rattle.agreement.specs.Demand2.{Holds, GrownBy, Demand2}
+use Rattle.agreement.specs.Demand2.{Holds, GrownBy, Answered, Demand2}
 use Rattle.agreement.proofs.Matching.{matches, lent-alike, lent-ready, Ready, checked-same, ready-next, capacity-within}
 use Rattle.agreement.proofs.Held.{known}
 use Rattle.agreement.proofs.Left.{left-by}
@@ -54,8 +54,8 @@ held-holds cs a t l =
       entity-rows = λ x i. sym (s .rows .entity-rows x (omega (arith, s .rows .entities)));
       version-rows = λ x i. sym (s .rows .version-rows x (omega (arith, s .rows .versions)));
       edge-rows = λ x i. sym (s .rows .edge-rows x (omega (arith, s .rows .edges)));
-      accepted = ap (λ (c : Counts). c .accepted) (sym (s .counts)) ∙ accepted-count (plainAfter cs);
-      edges = k .faithful .edges;
+      accepted-are = ap (λ (c : Counts). c .accepted) (sym (s .counts)) ∙ accepted-count (plainAfter cs);
+      edges-are = k .faithful .edges;
       kept = k .faithful .log;
     }
 
@@ -70,19 +70,20 @@ grown-next k r more rs rs′ g = record {
   grown = g .grown ∙ sym (reverseAux-eq (take k more) (r ∷ rs)) ∙ reverseAux-eq (r ∷ take k more) rs;
 }
 
--- b took in n records and k of the records more, and rs became rs′
-pub record Taking (n : ℕ) (more rs rs′ : List Record) (b : Batched) : Type 0 where
+-- b took in n records and some of the records more, by which rs became rs′, and was refused for x
+pub record Taking (n : ℕ) (more rs rs′ : List Record) (x : Checked) (b : Batched) : Type 0 where
   pub number : ℕ
   pub taken : b .answer .taken ≡ n + number
   pub grown : GrownBy number more rs rs′
+  pub refusal : b .answer .refusal ≡ numberOf x
 
-taking-none : (n : ℕ) (x : Checked) (c : Counts) (t : Tables) (more rs : List Record) → Taking n more rs rs (batched x n c t)
-taking-none n x c t more rs = record { number = 0; taken = omega arith; grown = grown-none more rs }
+taking-none : (n : ℕ) (x : Checked) (c : Counts) (t : Tables) (more rs : List Record) → Taking n more rs rs x (batched x n c t)
+taking-none n x c t more rs = record { number = 0; taken = omega arith; grown = grown-none more rs; refusal = refl }
 
 module _ (cap : Capacity) (w : Within cap) where
   takeIn-taking : (c : Counts) (t : Tables) (rs : List Record) → Ready cap c t rs → (n : ℕ) (more : List Record) (ending : Checked) → Each SortFits more
-      → Taking n more rs (added cap rs more) (takeIn c t n more ending)
-  unfolding takeIn added
+      → Taking n more rs (added cap rs more) (refusedAt cap rs more ending) (takeIn c t n more ending)
+  unfolding takeIn added refusedAt
   takeIn-taking c t rs y n [] ending a = taking-none n ending c t [] rs
   takeIn-taking c t rs y n (r ∷ more) ending a =
       rw (checked-same cap w c t rs y r)
@@ -91,16 +92,16 @@ module _ (cap : Capacity) (w : Within cap) where
       rest : Batched
       rest = takeIn (stepOf c t r .counts) (stepOf c t r .tables) (n + 1) more ending
 
-      go : (x : Checked) → refusalOf cap (worked rs) r ≡ x → (refusalOf cap (worked rs) r ≡ Passed → Taking (n + 1) more (r ∷ rs) (added cap (r ∷ rs) more) rest)
-          → Taking n (r ∷ more) rs (ifRefused x rs (added cap (r ∷ rs) more)) (ifRefused x (batched x n c t) rest)
+      go : (x : Checked) → refusalOf cap (worked rs) r ≡ x → (refusalOf cap (worked rs) r ≡ Passed → Taking (n + 1) more (r ∷ rs) (added cap (r ∷ rs) more) (refusedAt cap (r ∷ rs) more ending) rest)
+          → Taking n (r ∷ more) rs (ifRefused x rs (added cap (r ∷ rs) more)) (ifRefused x x (refusedAt cap (r ∷ rs) more ending)) (ifRefused x (batched x n c t) rest)
       go Passed q ih =
           let z = ih q in
-          record { number = suc (z .number); taken = omega (arith, z .taken); grown = grown-next (z .number) r more rs _ (z .grown) }
+          record { number = suc (z .number); taken = omega (arith, z .taken); grown = grown-next (z .number) r more rs _ (z .grown); refusal = z .refusal }
       go (Refused x) q ih = taking-none n (Refused x) c t (r ∷ more) rs
 
   batch-taking : (c : Counts) (t : Tables) (rs : List Record) → Ready cap c t rs → (file : List ℕ)
-      → Taking 0 (contentsOf file .records) rs (addedBy cap rs file) (batchOf c t file)
-  unfolding batchOf batchChecks addedBy firstOf
+      → Taking 0 (contentsOf file .records) rs (addedBy cap rs file) (refusedBy cap rs file) (batchOf c t file)
+  unfolding batchOf batchChecks addedBy refusedBy firstOf
   batch-taking c t rs y file =
       rw (y .sound)
       (go (firstOf (headerChecks file)) (takeIn-taking c t rs y 0 (contentsOf file .records) (contentsOf file .ending) (contents-fit file)))
@@ -108,21 +109,26 @@ module _ (cap : Capacity) (w : Within cap) where
       rest : Batched
       rest = takeIn c t 0 (contentsOf file .records) (contentsOf file .ending)
 
-      go : (x : Checked) → Taking 0 (contentsOf file .records) rs (added cap rs (contentsOf file .records)) rest
-          → Taking 0 (contentsOf file .records) rs (ifRefused x rs (added cap rs (contentsOf file .records))) (ifRefused x (batched x 0 c t) rest)
+      last : Checked
+      last = refusedAt cap rs (contentsOf file .records) (contentsOf file .ending)
+
+      go : (x : Checked) → Taking 0 (contentsOf file .records) rs (added cap rs (contentsOf file .records)) last rest
+          → Taking 0 (contentsOf file .records) rs (ifRefused x rs (added cap rs (contentsOf file .records))) (ifRefused x x last) (ifRefused x (batched x 0 c t) rest)
       go Passed z = z
       go (Refused x) z = taking-none 0 (Refused x) c t (contentsOf file .records) rs
 
-held-taken : (cs : List Call) → AllLent cs → (t : Tables) → Lent (heldAfter cs) t → (file : List ℕ)
-    → GrownBy (batchOf (heldAfter cs .counts) t file .answer .taken) (contentsOf file .records) (plainAfter cs) (plainAfter (batch t file ∷ cs))
-held-taken cs a t l file =
+held-answer : (cs : List Call) → AllLent cs → (t : Tables) → Lent (heldAfter cs) t → (file : List ℕ)
+    → Answered (plainAfter cs) t file (plainAfter (batch t file ∷ cs)) (batchOf (heldAfter cs .counts) t file .answer)
+held-answer cs a t l file =
     let z = batch-taking (capacityOf t) (capacity-within t) (heldAfter cs .counts) t (plainAfter cs) (lent-ready _ _ (matches cs a) t l) file in
-    subst (λ (n : ℕ). GrownBy n (contentsOf file .records) (plainAfter cs) (plainAfter (batch t file ∷ cs))) (omega (arith, z .taken)) (z .grown)
+    record {
+      refusal = z .refusal;
+      taken = subst (λ (n : ℕ). GrownBy n (contentsOf file .records) (plainAfter cs) (plainAfter (batch t file ∷ cs))) (omega (arith, z .taken)) (z .grown);
+    }
 
 pub demand2 : Demand2
 demand2 = record {
   holds = λ cs c t l. left-by (λ k. Holds (plainAfter cs) k t) l (held-holds cs (l .lent) t (l .rows));
-  taken = λ cs c t l file.
-      left-by (λ k. GrownBy (batchOf k t file .answer .taken) (contentsOf file .records) (plainAfter cs) (plainAfter (batch t file ∷ cs))) l
-      (held-taken cs (l .lent) t (l .rows) file);
+  answer = λ cs c t l file.
+      left-by (λ k. Answered (plainAfter cs) t file (plainAfter (batch t file ∷ cs)) (batchOf k t file .answer)) l (held-answer cs (l .lent) t (l .rows) file);
 }

@@ -2,28 +2,27 @@
 -- relations is said of the buffers, since the calls are those of the relations.
 use Prim.Native.Nat.{ℕ, _<_}
 use native.Mathlib.Omega.{arith}
-use mathlib.Core.Path.{_≡_, refl, sym, _∙_, subst}
+use mathlib.Core.Path.{_≡_, sym, _∙_, subst}
 use mathlib.Core.Logic.{_⊎_, _↔_, Iff·trans}
 use mathlib.Core.Bool.{true}
-use mathlib.Core.List.{List}
+use mathlib.Core.List.{List, [], _∷_}
 use Rattle.refusals.specs.declared.Refusal.the-variants.{Undeclared, BufferShort}
-use Rattle.refusals.specs.Refusals.{refusalNo}
+use Rattle.refusals.specs.Refusals.{firstOf, refusalNo, numberOf}
 use Rattle.rows.specs.declared.Counts.{Counts}
 use Rattle.record.specs.declared.Record.{Record}
 use Rattle.rules.specs.Trail.{Tables, capacityOf, Trail, trailOf}
 use Rattle.rules.specs.Sound.{isSound}
 use Rattle.rules.specs.History.{IntakeTime}
 use Rattle.rules.specs.PlainList.{worked, itemsOf}
-use Rattle.rules.specs.Backward.{BackwardTrace, backwardOf}
-use Rattle.rules.specs.Forward.{ForwardTrace, forwardOf}
-use Rattle.rules.specs.Calls.{Call, heldAfter, Lent, AllLent, plainAfter}
+use Rattle.rules.specs.Backward.{traceChecks, BackwardTrace}
+use Rattle.rules.specs.Forward.{ForwardTrace}
+use Rattle.rules.specs.Calls.{Call, batch, backward, forward, heldAfter, Lent, AllLent, plainAfter}
 use Rattle.rules.proofs.Intake.{intakeOf-is, intake-one}
 use Rattle.closure.specs.ByRelations.{CountOf, HasMarkedVersion, Marking, BackwardTraced, ForwardTraced}
 use Rattle.closure.proofs.Traces.{passed-entity}
 use Rattle.closure.proofs.Checked.{number-passed, number-sound}
-use Rattle.closure.proofs.ByRelations.{traces-by-relations}
 use Rattle.causality.proofs.Theorem.{claims}
-use Rattle.agreement.specs.Demand3.{MarksAre, BackwardAgrees, ForwardAgrees, TraceAgrees, Agrees, Demand3}
+use Rattle.agreement.specs.Demand3.{MarksAre, BackwardAgrees, ForwardAgrees, BackwardsAgree, ForwardsAgree, Agrees, TracesAgree, Demand3}
 use Rattle.agreement.proofs.Plain.{Fine, taken-fine}
 use Rattle.agreement.proofs.Matching.{Matches, matches, lent-sound}
 use Rattle.agreement.proofs.Held.{marked-some, Known, known}
@@ -67,21 +66,20 @@ module _ (c : Counts) (t : Tables) (rs : List Record) (k : Known (trailOf c t) (
     }
 
   module _ (s : isSound (capacityOf t) T ≡ true) (x time : ℕ) (work marks : List ℕ) where
-    backward-answer : TraceAgrees (backwardOf c t x time work marks .answer .refusal) (BackwardAgrees rs x time (backwardOf c t x time work marks))
-    backward-answer =
-        let r = traces-by-relations .backward c t x time work marks _ .0 refl in
-        record {
-          refusal = subst Rightly (sym (r .refusal)) (number-sound c t x work marks s);
-          agrees = λ q. backward-agrees x time work marks (passed-entity c t x work marks (number-passed c t x work marks (sym (r .refusal) ∙ q))) (r .traced q);
-        }
+    passed : {n : ℕ} → n ≡ numberOf (firstOf (traceChecks c t x work marks)) → n ≡ 0 → x < c .entities
+    passed p q = passed-entity c t x work marks (number-passed c t x work marks (sym p ∙ q))
 
-    forward-answer : TraceAgrees (forwardOf c t x time work marks .answer .refusal) (ForwardAgrees rs x time (forwardOf c t x time work marks))
-    forward-answer =
-        let r = traces-by-relations .forward c t x time work marks _ .0 refl in
-        record {
-          refusal = subst Rightly (sym (r .refusal)) (number-sound c t x work marks s);
-          agrees = λ q. forward-agrees x time work marks (passed-entity c t x work marks (number-passed c t x work marks (sym (r .refusal) ∙ q))) (r .traced q);
-        }
+    backward-answer : BackwardsAgree rs c t x time work marks
+    backward-answer b r = record {
+      refusal = subst Rightly (sym (r .refusal)) (number-sound c t x work marks s);
+      agrees = λ q. backward-agrees x time work marks (passed (r .refusal) q) (r .traced q);
+    }
+
+    forward-answer : ForwardsAgree rs c t x time work marks
+    forward-answer f r = record {
+      refusal = subst Rightly (sym (r .refusal)) (number-sound c t x work marks s);
+      agrees = λ q. forward-agrees x time work marks (passed (r .refusal) q) (r .traced q);
+    }
 
 held-agrees : (cs : List Call) → AllLent cs → (t : Tables) → Lent (heldAfter cs) t → Agrees (plainAfter cs) (heldAfter cs .counts) t
 held-agrees cs a t l = record {
@@ -104,5 +102,11 @@ held-agrees cs a t l = record {
     f : Fine (worked (plainAfter cs)) (itemsOf (plainAfter cs))
     f = taken-fine (m .taken)
 
+traces-agree : (cs : List Call) → AllLent cs → TracesAgree cs
+traces-agree [] a = tt
+traces-agree (batch t file ∷ cs) a = traces-agree cs (a .1)
+traces-agree (backward t v time work marks ∷ cs) a = (held-agrees cs (a .1) t (a .0) .backward v time work marks, traces-agree cs (a .1))
+traces-agree (forward t u time work marks ∷ cs) a = (held-agrees cs (a .1) t (a .0) .forward u time work marks, traces-agree cs (a .1))
+
 pub demand3 : Demand3
-demand3 cs c t l = left-by (λ k. Agrees (plainAfter cs) k t) l (held-agrees cs (l .lent) t (l .rows))
+demand3 cs c t l = (traces-agree cs (l .lent), left-by (λ k. Agrees (plainAfter cs) k t) l (held-agrees cs (l .lent) t (l .rows)))

@@ -24,25 +24,27 @@ module _ (c : Counts) (t : Tables) where
         framed = frame c t file;
         after = λ cs l.
             let m = leaving .batch cs c t l file in
-            record { left = m; taken = demand2 .taken cs c t l file; holds = demand2 .holds _ _ _ m; agrees = demand3 _ _ _ m };
+            record { left = m; answer = demand2 .answer cs c t l file; holds = demand2 .holds _ _ _ m; agrees = demand3 _ _ _ m .1 };
       })
 
   module _ (x time : ℕ) (work marks : List ℕ) where
     pub backward-promise : (b : BackwardTrace) → b ≡ backwardOf c t x time work marks → BackwardPromise c t x time work marks b
     backward-promise b q =
         subst (BackwardPromise c t x time work marks) (sym q)
-        (record {
-          traced = traces-by-relations .backward c t x time work marks _ .0 refl;
-          after = λ cs l. record { left = leaving .backward cs c t l x time work marks; agrees = demand3 cs c t l .backward x time work marks };
+        (let r = traces-by-relations .backward c t x time work marks _ .0 refl in
+        record {
+          traced = r;
+          after = λ cs l. record { left = leaving .backward cs c t l x time work marks; agrees = demand3 cs c t l .1 .backward x time work marks _ r };
         })
 
     pub forward-promise : (f : ForwardTrace) → f ≡ forwardOf c t x time work marks → ForwardPromise c t x time work marks f
     forward-promise f q =
         subst (ForwardPromise c t x time work marks) (sym q)
-        (record {
-          traced = traces-by-relations .forward c t x time work marks _ .0 refl;
-          after = λ cs l. record { left = leaving .forward cs c t l x time work marks; agrees = demand3 cs c t l .forward x time work marks };
+        (let r = traces-by-relations .forward c t x time work marks _ .0 refl in
+        record {
+          traced = r;
+          after = λ cs l. record { left = leaving .forward cs c t l x time work marks; agrees = demand3 cs c t l .1 .forward x time work marks _ r };
         })
 
   pub log-promise : (out : List ℕ) (k : KeptLog) → k ≡ keptLogOf c t out → LogPromise c t k
-  log-promise out k q = subst (LogPromise c t) (sym q) (λ cs l b. round-trip cs c t l b out)
+  log-promise out k q = subst (LogPromise c t) (sym q) (λ cs l. round-trip cs c t l out)

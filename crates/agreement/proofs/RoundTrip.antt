@@ -2,6 +2,7 @@
 use Prim.Native.Nat.{ℕ, _+_, _<_}
 use native.Mathlib.Omega.{arith}
 use mathlib.Core.Path.{_≡_, refl, sym, _∙_, ap, subst}
+use mathlib.Core.Logic.{_⊎_, inl, inr}
 use mathlib.Core.Bool.{Bool, true, false, cond}
 use mathlib.Core.List.{List, reverse}
 use lib.ListN.{length, take}
@@ -9,7 +10,7 @@ use lib.Dec.{ltb}
 use Rattle.refusals.specs.declared.Refusal.the-variants.{OutputShort}
 use Rattle.refusals.specs.declared.Checked.{Checked}
 use Rattle.refusals.specs.declared.Checked.the-variants.{Passed, Refused}
-use Rattle.refusals.specs.Refusals.{firstOf, numberOf}
+use Rattle.refusals.specs.Refusals.{firstOf, refusalNo, numberOf}
 use Rattle.rows.specs.declared.Counts.{Counts}
 use Rattle.rows.specs.declared.EntityRow.{EntityRow}
 use Rattle.record.specs.declared.Event.{Event}
@@ -30,7 +31,7 @@ use Rattle.causality.specs.Statements.{Logged}
 use Rattle.kept_log.specs.LogRecords.{logRecords, wholly}
 use Rattle.kept_log.proofs.LogRecords.{length-logRecords}
 use Rattle.kept_log.proofs.ReadBack.{log-taken-header, log-taken-contents}
-use Rattle.agreement.specs.RoundTrip.{AllBytes, EnoughRows, TakenAgain, LogTakenAgain, RoundTrip}
+use Rattle.agreement.specs.RoundTrip.{EnoughRows, TakenAgain, LogAgrees, RoundTrip}
 use Rattle.agreement.proofs.Matching.{Matches, matches, lent-alike, lent-rows, lent-sound, Ready, capacity-within}
 use Rattle.agreement.proofs.Held.{Known, known}
 use Rattle.agreement.proofs.Left.{own-lent, left-by}
@@ -43,19 +44,31 @@ use Rattle.agreement.proofs.Times.{last-small}
 use Rattle.agreement.proofs.TakenAll.{batch-all, batch-answer}
 use Rattle.agreement.proofs.Log.{events-same, logRecords-reverse}
 
--- a writer that refuses nothing passed its checks
+-- The checks of a writer over sound tables: it is refused with 15, or passes
 abbrev short : Bool → Checked
 short b = cond b (Refused OutputShort) Passed
 
-log-passed : (c : Counts) (t : Tables) (out : List ℕ) → isSound (capacityOf t) (trailOf c t) ≡ true → keptLogOf c t out .answer .refusal ≡ 0 → firstOf (logChecks c t out) ≡ Passed
-unfolding keptLogOf logChecks firstOf
-log-passed c t out s = rw s (go (ltb (length out) (length (logBytes (trailOf c t)))))
-  where
-    go : (b : Bool) → ifRefused {A = KeptLog} (short b) (keptLog (record { refusal = numberOf (short b); length = 0 }) out)
-        (keptLog (record { refusal = 0; length = length (logBytes (trailOf c t)) }) (overlaid (logBytes (trailOf c t)) out)) .answer .refusal ≡ 0
-        → short b ≡ Passed
-    go true q = absurd (omega arith)
-    go false q = refl
+module _ (c : Counts) (t : Tables) (out : List ℕ) (s : isSound (capacityOf t) (trailOf c t) ≡ true) where
+  abbrev answered : Bool → KeptLog
+  answered b =
+      ifRefused {A = KeptLog} (short b) (keptLog (record { refusal = numberOf (short b); length = 0 }) out)
+      (keptLog (record { refusal = 0; length = length (logBytes (trailOf c t)) }) (overlaid (logBytes (trailOf c t)) out))
+
+  log-refusal : (keptLogOf c t out .answer .refusal ≡ 0) ⊎ (keptLogOf c t out .answer .refusal ≡ refusalNo OutputShort)
+  unfolding keptLogOf logChecks firstOf
+  log-refusal = rw s (go (ltb (length out) (length (logBytes (trailOf c t)))))
+    where
+      go : (b : Bool) → (answered b .answer .refusal ≡ 0) ⊎ (answered b .answer .refusal ≡ refusalNo OutputShort)
+      go true = inr refl
+      go false = inl refl
+
+  log-passed : keptLogOf c t out .answer .refusal ≡ 0 → firstOf (logChecks c t out) ≡ Passed
+  unfolding keptLogOf logChecks firstOf
+  log-passed = rw s (go (ltb (length out) (length (logBytes (trailOf c t)))))
+    where
+      go : (b : Bool) → answered b .answer .refusal ≡ 0 → short b ≡ Passed
+      go true q = absurd (omega arith)
+      go false q = refl
 
 -- Tables lent what stands in h, and a fresh trail that takes in their log
 
@@ -132,14 +145,19 @@ module _ (h : Held) (rs : List Record) (m : Matches h rs) (t : Tables) (l : Lent
           calls = same-calls _ t _ _ (same-traces _ _ y) (lent-sound h rs m t l) (y .sound);
         }
 
-held-trip : (cs : List Call) → AllLent cs → AllBytes cs → (t : Tables) → Lent (heldAfter cs) t → (out : List ℕ)
-    → LogTakenAgain (heldAfter cs .counts) t (keptLogOf (heldAfter cs .counts) t out)
-held-trip cs a b t l out q lent room =
+held-trip : (cs : List Call) → AllLent cs → (t : Tables) → Lent (heldAfter cs) t → (out : List ℕ)
+    → LogAgrees cs (heldAfter cs .counts) t (keptLogOf (heldAfter cs .counts) t out)
+held-trip cs a t l out =
     let m = matches cs a in
     let c = heldAfter cs .counts in
-    let p = log-passed c t out (lent-sound _ _ m t l) q in
-    let small : c .last < 4294967296 = omega (arith, last-small cs b, ap (λ (k : Counts). k .last) (m .alike .counts)) in
-    taken-again (heldAfter cs) (plainAfter cs) m t l lent room _ (log-taken-header c t out p) (log-taken-contents c t out p small)
+    let s = lent-sound _ _ m t l in
+    record {
+      refusal = log-refusal c t out s;
+      again = λ q b lent room.
+          let p = log-passed c t out s q in
+          let small : c .last < 4294967296 = omega (arith, last-small cs b, ap (λ (k : Counts). k .last) (m .alike .counts)) in
+          taken-again (heldAfter cs) (plainAfter cs) m t l lent room _ (log-taken-header c t out p) (log-taken-contents c t out p small);
+    }
 
 pub round-trip : RoundTrip
-round-trip cs c t l b out = left-by (λ k. LogTakenAgain k t (keptLogOf k t out)) l (held-trip cs (l .lent) b t (l .rows) out)
+round-trip cs c t l out = left-by (λ k. LogAgrees cs k t (keptLogOf k t out)) l (held-trip cs (l .lent) t (l .rows) out)

@@ -4,13 +4,15 @@ use Prim.Native.Nat.{ℕ, _≤_, _<_}
 use mathlib.Core.Path.{_≡_}
 use mathlib.Core.List.{List, _∷_, _++_, reverse}
 use lib.ListN.{length, take}
+use Rattle.refusals.specs.Refusals.{numberOf}
 use Rattle.rows.specs.declared.Counts.{Counts}
 use Rattle.rows.specs.Rows.{entityAt, versionAt, edgeAt}
 use Rattle.record.specs.declared.Record.{Record}
-use Rattle.rules.specs.Trail.{Tables, trailOf}
+use Rattle.rules.specs.declared.BatchAnswer.{BatchAnswer}
+use Rattle.rules.specs.Trail.{Tables, capacityOf, trailOf}
 use Rattle.rules.specs.Batch.{contentsOf, batchOf}
 use Rattle.rules.specs.History.{accepted, keptEvents}
-use Rattle.rules.specs.PlainList.{worked, itemsOf}
+use Rattle.rules.specs.PlainList.{worked, itemsOf, refusedBy}
 use Rattle.rules.specs.Calls.{Call, batch, plainAfter}
 use Rattle.causality.specs.Statements.{Logged}
 use Rattle.agreement.specs.Left.{LeftBy}
@@ -21,9 +23,9 @@ pub record Holds (rs : List Record) (c : Counts) (t : Tables) : Type 0 where
   pub entity-rows : (k : ℕ) → k < c .entities → entityAt (t .entities) k ≡ worked rs .entity k
   pub version-rows : (k : ℕ) → k < c .versions → versionAt (t .versions) k ≡ worked rs .version k
   pub edge-rows : (k : ℕ) → k < c .edges → edgeAt (t .edges) k ≡ worked rs .edge k
-  pub accepted : c .accepted ≡ length (accepted (itemsOf rs))
+  pub accepted-are : c .accepted ≡ length (accepted (itemsOf rs))
   -- the edges are the kept events in order, with their kinds, entities and times
-  pub edges : c .edges ≡ length (keptEvents (itemsOf rs))
+  pub edges-are : c .edges ≡ length (keptEvents (itemsOf rs))
   pub kept : Logged (trailOf c t) (keptEvents (itemsOf rs))
 
 -- the plain list rs became rs′ by the first n of the records more, in order
@@ -31,8 +33,13 @@ pub record GrownBy (n : ℕ) (more rs rs′ : List Record) : Type 0 where
   pub among : n ≤ length more
   pub grown : rs′ ≡ reverse (take n more) ++ rs
 
+-- a batch's answer, where the file was taken in after the plain list rs, which then was rs′
+pub record Answered (rs : List Record) (t : Tables) (file : List ℕ) (rs′ : List Record) (a : BatchAnswer) : Type 0 where
+  pub refusal : a .refusal ≡ numberOf (refusedBy (capacityOf t) rs file)
+  pub taken : GrownBy (a .taken) (contentsOf file .records) rs rs′
+
 pub record Demand2 : Type 0 where
   pub holds : (cs : List Call) (c : Counts) (t : Tables) → LeftBy cs c t → Holds (plainAfter cs) c t
-  -- "A batch returns .. how many records it took in; the tables show those records."
-  pub taken : (cs : List Call) (c : Counts) (t : Tables) → LeftBy cs c t → (file : List ℕ)
-      → GrownBy (batchOf c t file .answer .taken) (contentsOf file .records) (plainAfter cs) (plainAfter (batch t file ∷ cs))
+  -- "A batch returns the number (0 if none) and how many records it took in; the tables show those records."
+  pub answer : (cs : List Call) (c : Counts) (t : Tables) → LeftBy cs c t → (file : List ℕ)
+      → Answered (plainAfter cs) t file (plainAfter (batch t file ∷ cs)) (batchOf c t file .answer)

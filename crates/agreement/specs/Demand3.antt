@@ -4,7 +4,7 @@ use Prim.Native.Nat.{ℕ, _+_, _≤_, _<_}
 use mathlib.Core.Path.{_≡_}
 use mathlib.Core.Logic.{_⊎_, _↔_}
 use mathlib.Core.Bool.{true}
-use mathlib.Core.List.{List, _∷_, _++_}
+use mathlib.Core.List.{List, [], _∷_, _++_}
 use lib.ListN.{getD}
 use Rattle.refusals.specs.declared.Refusal.the-variants.{Undeclared, BufferShort}
 use Rattle.refusals.specs.Refusals.{refusalNo}
@@ -16,10 +16,10 @@ use Rattle.rules.specs.Sound.{isSound}
 use Rattle.rules.specs.Paths.{PathBy, PathFrom, Gains}
 use Rattle.rules.specs.History.{Item, dropped, accepted, Reached, IntakeTime}
 use Rattle.rules.specs.PlainList.{worked, itemsOf}
-use Rattle.rules.specs.Backward.{BackwardTrace, backwardOf}
-use Rattle.rules.specs.Forward.{ForwardTrace, forwardOf}
-use Rattle.rules.specs.Calls.{Call, plainAfter}
-use Rattle.closure.specs.ByRelations.{CountOf}
+use Rattle.rules.specs.Backward.{BackwardTrace}
+use Rattle.rules.specs.Forward.{ForwardTrace}
+use Rattle.rules.specs.Calls.{Call, batch, backward, forward, heldAfter, plainAfter}
+use Rattle.closure.specs.ByRelations.{CountOf, IsBackwardTrace, IsForwardTrace}
 use Rattle.agreement.specs.Left.{LeftBy}
 
 -- of n entities, each byte is 1 if M holds of it and else 0, and the count is of those that M holds of
@@ -33,16 +33,25 @@ abbrev pub BackwardAgrees : List Record → ℕ → ℕ → BackwardTrace → Ty
 BackwardAgrees rs v t b = MarksAre (worked rs .counts .entities) (λ x. PathBy (accepted (itemsOf rs)) t x v) (b .marks) (b .answer .count)
 
 -- forward from u at t: exactly those reached from the latest kept intake at or before t, or from time 0 if there is none;
--- the intake given is its time; never less than the full log's answer at t
+-- the intake given is its time, 0 if there is none; never less than the full log's answer at t
 pub record ForwardAgrees (rs : List Record) (u t : ℕ) (f : ForwardTrace) : Type 0 where
   pub marks : MarksAre (worked rs .counts .entities) (Reached u t (itemsOf rs)) (f .marks) (f .answer .count)
   pub intake : IntakeTime u t (itemsOf rs) (f .answer .intake)
   pub never-less : (y : ℕ) → PathFrom (accepted (itemsOf rs)) t u y → (y < worked rs .counts .entities) × (getD (f .marks) y 0 ≡ 1)
 
 -- "In such a list a trace is refused only with 5 or 14", and if it is not, it agrees
-pub record TraceAgrees (number : ℕ) (Agrees : Type 0) : Type 0 where
+pub record TraceAgrees (number : ℕ) (Claim : Type 0) : Type 0 where
   pub refusal : (number ≡ 0) ⊎ ((number ≡ refusalNo Undeclared) ⊎ (number ≡ refusalNo BufferShort))
-  pub agrees : number ≡ 0 → Agrees
+  pub agrees : number ≡ 0 → Claim
+
+-- so for whatever a trace lent these returns and leaves
+abbrev pub BackwardsAgree : List Record → Counts → Tables → ℕ → ℕ → List ℕ → List ℕ → Type 0
+BackwardsAgree rs c t v time work marks =
+    (b : BackwardTrace) → IsBackwardTrace c t v time work marks b → TraceAgrees (b .answer .refusal) (BackwardAgrees rs v time b)
+
+abbrev pub ForwardsAgree : List Record → Counts → Tables → ℕ → ℕ → List ℕ → List ℕ → Type 0
+ForwardsAgree rs c t u time work marks =
+    (f : ForwardTrace) → IsForwardTrace c t u time work marks f → TraceAgrees (f .answer .refusal) (ForwardAgrees rs u time f)
 
 -- every event by which an entity gained an ancestor is a kept intake of it: by a dropped one none did
 abbrev pub GainsAreKept : List Item → Type 0
@@ -51,14 +60,19 @@ GainsAreKept hs = (later earlier : List Item) (e : Event) → hs ≡ later ++ (d
 -- counts c and tables t agree with the plain list rs: so do traces with any entity, time and buffers
 pub record Agrees (rs : List Record) (c : Counts) (t : Tables) : Type 0 where
   pub sound : isSound (capacityOf t) (trailOf c t) ≡ true
-  pub backward : (v time : ℕ) (work marks : List ℕ)
-      → TraceAgrees (backwardOf c t v time work marks .answer .refusal) (BackwardAgrees rs v time (backwardOf c t v time work marks))
-  pub forward : (u time : ℕ) (work marks : List ℕ)
-      → TraceAgrees (forwardOf c t u time work marks .answer .refusal) (ForwardAgrees rs u time (forwardOf c t u time work marks))
+  pub backward : (v time : ℕ) (work marks : List ℕ) → BackwardsAgree rs c t v time work marks
+  pub forward : (u time : ℕ) (work marks : List ℕ) → ForwardsAgree rs c t u time work marks
   pub gains : GainsAreKept (itemsOf rs)
   -- "Over a trail grown from fresh, versions ≤ entities + edges."
   pub versions : c .versions ≤ c .entities + c .edges
 
+-- each trace of the list agrees with the records taken in before it
+abbrev pub TracesAgree : List Call → Type 0
+TracesAgree [] = Unit {0}
+TracesAgree (batch t file ∷ cs) = TracesAgree cs
+TracesAgree (backward t v time work marks ∷ cs) = BackwardsAgree (plainAfter cs) (heldAfter cs .counts) t v time work marks × TracesAgree cs
+TracesAgree (forward t u time work marks ∷ cs) = ForwardsAgree (plainAfter cs) (heldAfter cs .counts) t u time work marks × TracesAgree cs
+
 -- "All this is a single claim about the list and not one for each call."
 abbrev pub Demand3 : Type 0
-Demand3 = (cs : List Call) (c : Counts) (t : Tables) → LeftBy cs c t → Agrees (plainAfter cs) c t
+Demand3 = (cs : List Call) (c : Counts) (t : Tables) → LeftBy cs c t → TracesAgree cs × Agrees (plainAfter cs) c t

@@ -7,7 +7,7 @@ use Rattle.rules.specs.Trail.{Tables, freshCounts}
 use Rattle.rules.specs.Batch.{batchOf}
 use Rattle.rules.specs.Calls.{Call, batch, backward, forward, held, heldAfter, Lent, AllLent}
 
--- the calls cs, each lent what the one before left, leave the counts c and, in tables of any length, the rows in use of t
+-- c are the counts that the calls cs leave, each lent what the one before left, and t holds the rows in use that they leave
 pub record LeftBy (cs : List Call) (c : Counts) (t : Tables) : Type 0 where
   pub lent : AllLent cs
   pub counts : c ≡ heldAfter cs .counts
@@ -17,9 +17,12 @@ pub record LeftBy (cs : List Call) (c : Counts) (t : Tables) : Type 0 where
 pub record Leaving : Type 0 where
   -- "All five zero is a fresh trail, whatever the tables hold."
   pub fresh : (t : Tables) → LeftBy [] freshCounts t
-  pub batch : (cs : List Call) (c : Counts) (t : Tables) → LeftBy cs c t → (file : List ℕ) → LeftBy (batch t file ∷ cs) (batchOf c t file .counts) (batchOf c t file .tables)
+  pub batch : (cs : List Call) (c : Counts) (t : Tables) → LeftBy cs c t → (file : List ℕ)
+      → LeftBy (batch t file ∷ cs) (batchOf c t file .counts) (batchOf c t file .tables)
   -- a trace leaves what it was lent
-  pub backward : (cs : List Call) (c : Counts) (t : Tables) → LeftBy cs c t → (v time : ℕ) (work marks : List ℕ) → LeftBy (backward t v time work marks ∷ cs) c t
-  pub forward : (cs : List Call) (c : Counts) (t : Tables) → LeftBy cs c t → (u time : ℕ) (work marks : List ℕ) → LeftBy (forward t u time work marks ∷ cs) c t
+  pub backward : (cs : List Call) (c : Counts) (t : Tables) → LeftBy cs c t → (v time : ℕ) (work marks : List ℕ)
+      → LeftBy (backward t v time work marks ∷ cs) c t
+  pub forward : (cs : List Call) (c : Counts) (t : Tables) → LeftBy cs c t → (u time : ℕ) (work marks : List ℕ)
+      → LeftBy (forward t u time work marks ∷ cs) c t
   -- the rows in use may be moved to other tables
   pub moved : (cs : List Call) (c : Counts) (t : Tables) → LeftBy cs c t → (other : Tables) → Lent (held c t) other → LeftBy cs c other

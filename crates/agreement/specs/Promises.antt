@@ -5,7 +5,7 @@ use mathlib.Core.Path.{_≡_}
 use mathlib.Core.List.{List, _∷_}
 use Rattle.rows.specs.declared.Counts.{Counts}
 use Rattle.rules.specs.Trail.{Tables}
-use Rattle.rules.specs.Batch.{contentsOf, Batched}
+use Rattle.rules.specs.Batch.{Batched}
 use Rattle.rules.specs.Backward.{BackwardTrace}
 use Rattle.rules.specs.Forward.{ForwardTrace}
 use Rattle.rules.specs.KeptLog.{KeptLog}
@@ -13,14 +13,14 @@ use Rattle.rules.specs.Calls.{Call, batch, backward, forward, plainAfter}
 use Rattle.soundness.specs.Frame.{Framed}
 use Rattle.closure.specs.ByRelations.{IsBackwardTrace, IsForwardTrace}
 use Rattle.agreement.specs.Left.{LeftBy}
-use Rattle.agreement.specs.Demand2.{Holds, GrownBy}
+use Rattle.agreement.specs.Demand2.{Holds, Answered}
 use Rattle.agreement.specs.Demand3.{TraceAgrees, BackwardAgrees, ForwardAgrees, Agrees}
-use Rattle.agreement.specs.RoundTrip.{AllBytes, LogTakenAgain}
+use Rattle.agreement.specs.RoundTrip.{LogAgrees}
 
 -- after the calls cs: the list with this batch leaves what the batch left, and that holds the records taken in and agrees with them
 pub record BatchAfter (cs : List Call) (t : Tables) (file : List ℕ) (b : Batched) : Type 0 where
   pub left : LeftBy (batch t file ∷ cs) (b .counts) (b .tables)
-  pub taken : GrownBy (b .answer .taken) (contentsOf file .records) (plainAfter cs) (plainAfter (batch t file ∷ cs))
+  pub answer : Answered (plainAfter cs) t file (plainAfter (batch t file ∷ cs)) (b .answer)
   pub holds : Holds (plainAfter (batch t file ∷ cs)) (b .counts) (b .tables)
   pub agrees : Agrees (plainAfter (batch t file ∷ cs)) (b .counts) (b .tables)
 
@@ -29,9 +29,9 @@ pub record BatchPromise (c : Counts) (t : Tables) (file : List ℕ) (b : Batched
   pub after : (cs : List Call) → LeftBy cs c t → BatchAfter cs t file b
 
 -- after the calls cs: the list with this trace leaves what the trace was lent, and the trace agrees with the full list
-pub record TraceAfter (cs : List Call) (c : Counts) (t : Tables) (trace : Call) (number : ℕ) (Agrees : Type 0) : Type 0 where
+pub record TraceAfter (cs : List Call) (c : Counts) (t : Tables) (trace : Call) (number : ℕ) (Claim : Type 0) : Type 0 where
   pub left : LeftBy (trace ∷ cs) c t
-  pub agrees : TraceAgrees number Agrees
+  pub agrees : TraceAgrees number Claim
 
 pub record BackwardPromise (c : Counts) (t : Tables) (v time : ℕ) (work marks : List ℕ) (b : BackwardTrace) : Type 0 where
   pub traced : IsBackwardTrace c t v time work marks b
@@ -41,6 +41,6 @@ pub record ForwardPromise (c : Counts) (t : Tables) (u time : ℕ) (work marks :
   pub traced : IsForwardTrace c t u time work marks f
   pub after : (cs : List Call) → LeftBy cs c t → TraceAfter cs c t (forward t u time work marks) (f .answer .refusal) (ForwardAgrees (plainAfter cs) u time f)
 
--- after calls whose files are of bytes, the log that was written is taken in again
+-- the log that was written is taken in again
 abbrev pub LogPromise : Counts → Tables → KeptLog → Type 0
-LogPromise c t k = (cs : List Call) → LeftBy cs c t → AllBytes cs → LogTakenAgain c t k
+LogPromise c t k = (cs : List Call) → LeftBy cs c t → LogAgrees cs c t k

@@ -2,16 +2,20 @@
 -- traces. Document 01: "Version numbers may differ after it is taken in again; work buffers are not compared then."
 use Prim.Native.Nat.{ℕ, _+_, _≤_, _<_}
 use mathlib.Core.Path.{_≡_}
+use mathlib.Core.Logic.{_⊎_}
 use mathlib.Core.List.{List, [], _∷_}
 use lib.ListN.{take}
+use Rattle.refusals.specs.declared.Refusal.the-variants.{OutputShort}
+use Rattle.refusals.specs.Refusals.{refusalNo}
 use Rattle.rows.specs.declared.Counts.{Counts}
 use Rattle.record.specs.Layout.{Bytes}
 use Rattle.rules.specs.Trail.{Tables, Capacity, capacityOf, Trail, trailOf, freshCounts}
 use Rattle.rules.specs.Batch.{Batched, batchOf}
-use Rattle.rules.specs.Backward.{backwardOf}
-use Rattle.rules.specs.Forward.{forwardOf}
+use Rattle.rules.specs.Backward.{BackwardTrace}
+use Rattle.rules.specs.Forward.{ForwardTrace}
 use Rattle.rules.specs.KeptLog.{eventRecord, KeptLog, keptLogOf}
 use Rattle.rules.specs.Calls.{Call, batch, backward, forward}
+use Rattle.closure.specs.ByRelations.{IsBackwardTrace, IsForwardTrace}
 use Rattle.agreement.specs.Left.{LeftBy}
 
 -- the files of the batches are of bytes
@@ -35,12 +39,12 @@ pub record SameTrail (T U : Trail) : Type 0 where
   pub events : (k : ℕ) → k < T .counts .edges → eventRecord U k ≡ eventRecord T k
 
 -- the same traces and kept log, whatever the calls are lent besides: the numbers that they return, the mark buffer, the output
-pub record SameCalls (c : Counts) (t : Tables) (d : Counts) (u : Tables) : Type 0 where
-  pub backward-answer : (v time : ℕ) (work marks : List ℕ) → backwardOf d u v time work marks .answer ≡ backwardOf c t v time work marks .answer
-  pub backward-marks : (v time : ℕ) (work marks : List ℕ) → backwardOf d u v time work marks .marks ≡ backwardOf c t v time work marks .marks
-  pub forward-answer : (x time : ℕ) (work marks : List ℕ) → forwardOf d u x time work marks .answer ≡ forwardOf c t x time work marks .answer
-  pub forward-marks : (x time : ℕ) (work marks : List ℕ) → forwardOf d u x time work marks .marks ≡ forwardOf c t x time work marks .marks
-  pub log : (out : List ℕ) → keptLogOf d u out ≡ keptLogOf c t out
+pub record SameCalls (c : Counts) (t : Tables) (c′ : Counts) (t′ : Tables) : Type 0 where
+  pub backward : (v time : ℕ) (work marks : List ℕ) (b b′ : BackwardTrace) → IsBackwardTrace c t v time work marks b → IsBackwardTrace c′ t′ v time work marks b′
+      → (b′ .answer ≡ b .answer) × (b′ .marks ≡ b .marks)
+  pub forward : (u time : ℕ) (work marks : List ℕ) (f f′ : ForwardTrace) → IsForwardTrace c t u time work marks f → IsForwardTrace c′ t′ u time work marks f′
+      → (f′ .answer ≡ f .answer) × (f′ .marks ≡ f .marks)
+  pub log : (out : List ℕ) → keptLogOf c′ t′ out ≡ keptLogOf c t out
 
 -- the batch takes in every record of the log, and the trail that it leaves is the same
 pub record TakenAgain (c : Counts) (t : Tables) (b : Batched) : Type 0 where
@@ -52,11 +56,12 @@ pub record TakenAgain (c : Counts) (t : Tables) (b : Batched) : Type 0 where
 abbrev pub writtenLog : KeptLog → List ℕ
 writtenLog k = take (k .answer .length) (k .out)
 
--- a writer that refused nothing wrote a log that a fresh trail, in tables that hold anything, takes in again
-abbrev pub LogTakenAgain : Counts → Tables → KeptLog → Type 0
-LogTakenAgain c t k =
-    k .answer .refusal ≡ 0 → (lent : Tables) → EnoughRows (capacityOf lent) c → TakenAgain c t (batchOf freshCounts lent (writtenLog k))
+-- What a writer returns and leaves after the calls cs: it is refused only with 15; and if it is not, and the files were of bytes,
+-- it wrote a log that a fresh trail takes in again, in tables that hold anything
+pub record LogAgrees (cs : List Call) (c : Counts) (t : Tables) (k : KeptLog) : Type 0 where
+  pub refusal : (k .answer .refusal ≡ 0) ⊎ (k .answer .refusal ≡ refusalNo OutputShort)
+  pub again : k .answer .refusal ≡ 0 → AllBytes cs → (lent : Tables) → EnoughRows (capacityOf lent) c → TakenAgain c t (batchOf freshCounts lent (writtenLog k))
 
 -- after any list of calls, for a writer with any output
 abbrev pub RoundTrip : Type 0
-RoundTrip = (cs : List Call) (c : Counts) (t : Tables) → LeftBy cs c t → AllBytes cs → (out : List ℕ) → LogTakenAgain c t (keptLogOf c t out)
+RoundTrip = (cs : List Call) (c : Counts) (t : Tables) → LeftBy cs c t → (out : List ℕ) → LogAgrees cs c t (keptLogOf c t out)

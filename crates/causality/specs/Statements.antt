@@ -42,7 +42,7 @@ pub record Faithful (T : Trail) (hs : List Item) : Type 0 where
   pub latest : (u t : ℕ) → LatestIntake u t hs ⊎ NoIntake u t hs
   -- the intake that forward gives is its time, 0 if there is none
   pub intake : (u t s : ℕ) → u < ne T → StartVersion T u t s → IntakeTime u t hs (intakeOf T s t)
-  -- "a forward answer may hold more than the full log's answer at t, never less"
+  -- never less than the paths through events later than t; times may be equal here
   pub never-less : (u t s y : ℕ) → u < ne T → StartVersion T u t s → OrderPath (above t (accepted hs)) u y → EntityMarked T (ForwardMarks T s) y
   -- a dropped event gives its target no causal path that it had not
   pub gain : (later earlier : List Item) (e : Event) → hs ≡ later ++ (dropped e ∷ earlier) → (x : ℕ)
@@ -64,6 +64,7 @@ pub record Document01 (T : Trail) (hs : List Item) : Type 0 where
   pub backward : (v t s x : ℕ) → v < ne T → StartVersion T v t s → EntityMarked T (BackwardMarks T s t) x ↔ PathBy (accepted hs) t x v
   pub forward : (u t s y : ℕ) → u < ne T → StartVersion T u t s → EntityMarked T (ForwardMarks T s) y ↔ Reached u t hs y
   pub intake : (u t s : ℕ) → u < ne T → StartVersion T u t s → IntakeTime u t hs (intakeOf T s t)
+  -- "a forward answer may hold more than the full log's answer at t, never less"
   pub never-less : (u t s y : ℕ) → u < ne T → StartVersion T u t s → PathFrom (accepted hs) t u y → EntityMarked T (ForwardMarks T s) y
   -- no entity gains an ancestor by a dropped event
   pub gain : (later earlier : List Item) (e : Event) → hs ≡ later ++ (dropped e ∷ earlier) → Gains (accepted earlier) e → ⊥

@@ -49,8 +49,8 @@ abbrev pub AllLent : List Call → Type 0
 AllLent [] = Unit {0}
 AllLent (x ∷ cs) = Lent (heldAfter cs) (lentTo x) × AllLent cs
 
--- "Beside it goes a plain list, the records taken in, at first empty. A batch adds ..; a trace adds nothing." Only the
--- capacity lent and the file are read of a call
+-- "Beside it goes a plain list, the records taken in, at first empty. A batch adds ..; a trace adds nothing. .. Nothing is read
+-- from the trail's own tables, counts or answers": only the capacity lent and the file are read of a call
 abbrev pub plainAfter : List Call → List Record
 plainAfter [] = []
 plainAfter (batch t file ∷ cs) = addedBy (capacityOf t) (plainAfter cs) file
