@@ -1,6 +1,6 @@
--- Document 01, "Traces": what a trace call returns and leaves, said by the document's relations alone (`StartVersion`, `BackwardMarks`,
--- `ForwardMarks`, `IsIntake`), for every counts, tables, entity, time and buffers lent. `backwardOf` and `forwardOf` compute this and
--- nothing else, so how they compute it need not be read.
+-- Document 01, "Traces": what a trace call returns and leaves, said by the document's checks and relations alone (`traceChecks`,
+-- `StartVersion`, `BackwardMarks`, `ForwardMarks`, `IsIntake`), for every counts, tables, entity, time and buffers lent.
+-- `backwardOf` and `forwardOf` compute this and nothing else, so how they compute it need not be read.
 use Prim.Native.Nat.{ℕ, _≤_, _<_}
 use mathlib.Core.Path.{_≡_}
 use mathlib.Core.Logic.{_⊎_, _↔_}
@@ -10,8 +10,8 @@ use Rattle.refusals.specs.Refusals.{firstOf, numberOf}
 use Rattle.rows.specs.declared.Counts.{Counts}
 use Rattle.rules.specs.Trail.{Tables, Trail, trailOf, ownerOf}
 use Rattle.rules.specs.Start.{StartVersion, IsIntake}
-use Rattle.rules.specs.Backward.{BackwardMarks, traceChecks, BackwardTrace, backwardOf}
-use Rattle.rules.specs.Forward.{ForwardMarks, ForwardTrace, forwardOf}
+use Rattle.rules.specs.Backward.{BackwardMarks, traceChecks, BackwardTrace, backwardTrace, backwardOf}
+use Rattle.rules.specs.Forward.{ForwardMarks, ForwardTrace, forwardTrace, forwardOf}
 
 -- What both traces share
 
@@ -69,14 +69,14 @@ pub record ForwardTraced (T : Trail) (u time : ℕ) (work marks : List ℕ) (f :
 -- and writes nothing."
 pub record IsBackwardTrace (c : Counts) (t : Tables) (v time : ℕ) (work marks : List ℕ) (b : BackwardTrace) : Type 0 where
   pub refusal : b .answer .refusal ≡ numberOf (firstOf (traceChecks c t v work marks))
-  pub refused : (b .answer .refusal ≡ 0 → ⊥) → b ≡ record { answer = record { refusal = b .answer .refusal; count = 0 }; work = work; marks = marks }
+  pub refused : (b .answer .refusal ≡ 0 → ⊥) → b ≡ backwardTrace (record { refusal = b .answer .refusal; count = 0 }) work marks
   pub traced : b .answer .refusal ≡ 0 → BackwardTraced (trailOf c t) v time work marks b
 
 -- f is what a forward call on these returns and leaves
 pub record IsForwardTrace (c : Counts) (t : Tables) (u time : ℕ) (work marks : List ℕ) (f : ForwardTrace) : Type 0 where
   pub refusal : f .answer .refusal ≡ numberOf (firstOf (traceChecks c t u work marks))
   pub refused : (f .answer .refusal ≡ 0 → ⊥)
-      → f ≡ record { answer = record { refusal = f .answer .refusal; count = 0; intake = 0 }; work = work; marks = marks }
+      → f ≡ forwardTrace (record { refusal = f .answer .refusal; count = 0; intake = 0 }) work marks
   pub traced : f .answer .refusal ≡ 0 → ForwardTraced (trailOf c t) u time work marks f
 
 -- the calls as computed are these, and nothing else is
