@@ -16,7 +16,7 @@ use Rattle.rules.specs.Trail.{Trail, tables, trailOf, counts, freshCount
 use Rattle.rules.specs.Decide.{edgeNo, repeatOf}
 use Rattle.rules.specs.Record.{stepOf}
 use Rattle.rules.specs.Batch.{Batched, batchOf}
-use Rattle.rules.specs.Worked.{declarations, file, room, answer}
+use Rattle.rules.specs.Worked.{header, declarations, file, room, answer}
 use Rattle.rules.specs.Order.{declare, event, full}
 use Rattle.rules.specs.SoundCases.{versionsUsed}
 use Rattle.rules.specs.FileCases.{takenIn}
@@ -36,6 +36,18 @@ workedThen e = batchOf freshCounts (room 8) (file 1 ++ e) .counts
 -- an event of kind k from object 0 to subject 1, then one of kind l: how many edges are kept
 abbrev pub keptOfTwo : ℕ → ℕ → ℕ
 keptOfTwo k l = takenIn (declare 0 0 ++ (declare 1 1 ++ (event k 0 1 1 ++ event l 0 1 2))) .counts .edges
+
+-- events among object 0 and subjects 1 and 2
+abbrev pub threeThen : List ℕ → Batched
+threeThen es = takenIn (declare 0 0 ++ (declare 1 1 ++ (declare 2 1 ++ es)))
+
+-- 1 forks 2 three times, and 2 reads 0: more edges than versions
+abbrev pub forks : List ℕ
+forks = event 4 1 2 1 ++ (event 4 1 2 2 ++ (event 4 1 2 3 ++ event 1 0 2 4))
+
+-- an event where the edge row of `full` is not in use
+abbrev pub afterUnused : List ℕ → Counts
+afterUnused e = batchOf (counts 2 2 0 0 5) full (header ++ e) .counts
 
 -- the worked trail's entities. 1 reads 0 and writes 2; it reads 2, which makes its second version, and 3, which widens
 -- that; it writes 2, which makes the second of 2; an execve makes its third
@@ -61,6 +73,7 @@ pub record RecordCases : Type 0 where
   pub newest-repeated : repeatOf twoEdges (read 0 1 3) ≡ At (edgeNo 1)
   pub two-writes : takenIn (declare 0 1 ++ (declare 1 0 ++ (event 2 0 1 1 ++ event 2 0 1 2))) .counts ≡ counts 2 2 1 2 2
   pub two-forks : takenIn (declare 0 1 ++ (declare 1 1 ++ (event 4 0 1 1 ++ event 4 0 1 2))) .counts ≡ counts 2 2 2 2 2
+  pub two-targets : map (λ es. threeThen es .counts .edges) ((event 1 0 1 1 ++ event 1 0 2 2) ∷ (event 1 0 2 1 ++ event 1 0 1 2) ∷ []) ≡ 2 ∷ 2 ∷ []
   -- .. and to an older one: the stager's first version was read into, and is no longer its latest
   pub into-older-read : workedThen (event 1 0 1 8) ≡ counts 4 5 4 8 8
   pub into-older-load : workedThen (event 3 0 1 8) ≡ counts 4 5 4 8 8
@@ -86,7 +99,13 @@ pub record RecordCases : Type 0 where
       ∷ 4 ∷ 5 ∷ 2 ∷ 5
       ∷ 0 ∷ 6 ∷ 5 ∷ 6
       ∷ replicate 8 7
+  -- every edge in use counts, and no other
+  pub newest-repeats : threeThen (forks ++ event 1 0 2 5) .counts ≡ counts 3 3 4 5 5
+  pub newest-leaves : threeThen (forks ++ event 2 2 0 5) .counts ≡ counts 3 4 5 5 5
+  pub unused-repeats : afterUnused (event 1 0 1 6) ≡ counts 2 2 1 1 6
+  pub unused-leaves : afterUnused (event 2 1 0 6) ≡ counts 2 2 1 1 6
   -- an entity declared after events: its first version's number is not its own
+  pub after-repeats : workedThen (declare 4 1) ≡ counts 5 6 4 7 7
   pub late-counts : grownThenDeclared .counts ≡ counts 5 7 5 5 5
   pub late-entities : map (entityAt (grownThenDeclared .tables .entities)) (0 ∷ 1 ∷ 2 ∷ 3 ∷ 4 ∷ []) ≡ entityRow 0 0 ∷ entityRow 1 4 ∷ entityRow 0 5 ∷ entityRow 0 3 ∷ entityRow 1 6 ∷ []
   pub late-version : versionAt (grownThenDeclared .tables .versions) 6 ≡ versionRow 4 0 0 none

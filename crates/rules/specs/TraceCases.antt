@@ -9,10 +9,10 @@ use Rattle.rules.specs.Batch.{Batched}
 use Rattle.rules.specs.Start.{greatestOr}
 use Rattle.rules.specs.Backward.{BackwardTrace, backwardOf}
 use Rattle.rules.specs.Forward.{ForwardTrace, forwardOf}
-use Rattle.rules.specs.Order.{declare, event, used, unsound}
+use Rattle.rules.specs.Order.{declare, event, used, full, unsound}
 use Rattle.rules.specs.SoundCases.{entityRows, edgeRows, sixVersions, versionsUsed}
 use Rattle.rules.specs.FileCases.{takenIn}
-use Rattle.rules.specs.RecordCases.{grown}
+use Rattle.rules.specs.RecordCases.{threeThen, forks, grown}
 
 -- the traces of the trail of RecordCases, with buffers of w and m bytes: it has 7 versions and 4 entities
 abbrev pub backwardIn : ℕ → ℕ → ℕ → ℕ → BackwardTrace
@@ -58,6 +58,23 @@ branchedBackward t = backwardOf (versionsUsed 6) branched 1 t (replicate 6 9) (r
 abbrev pub branchedForward : ℕ → List ℕ
 branchedForward t = forwardOf (versionsUsed 6) branched 1 t (replicate 6 9) (replicate 4 9) .work
 
+-- sound, but grown by no file: three versions of one object, and no edge
+abbrev pub threeVersions : Tables
+threeVersions = tables (0 ∷ 2 ∷ []) (0 ∷ 0 ∷ 0 ∷ none ∷ 0 ∷ 3 ∷ 3 ∷ 0 ∷ 0 ∷ 6 ∷ 6 ∷ 1 ∷ []) []
+
+abbrev pub threeBackward : ℕ → List ℕ
+threeBackward t = backwardOf (counts 1 3 0 0 6) threeVersions 0 t (replicate 3 9) (9 ∷ []) .work
+
+abbrev pub threeForward : ℕ → List ℕ
+threeForward t = forwardOf (counts 1 3 0 0 6) threeVersions 0 t (replicate 3 9) (9 ∷ []) .work
+
+abbrev pub threeMarks : ℕ → List ℕ
+threeMarks t = forwardOf (counts 1 3 0 0 6) threeVersions 0 t (replicate 3 9) (9 ∷ []) .marks
+
+-- where there are more edges than versions
+abbrev pub forksForward : ℕ → ForwardTrace
+forksForward t = forwardOf (threeThen forks .counts) (threeThen forks .tables) 2 t (replicate 3 9) (replicate 3 9)
+
 -- a chain of four events from 0 to 4
 abbrev pub chain : Batched
 chain = takenIn (declare 0 0 ++ (declare 1 1 ++ (declare 2 0 ++ (declare 3 1 ++ (declare 4 0 ++ (event 1 0 1 1 ++ (event 2 1 2 2 ++ (event 1 2 3 3 ++ event 2 3 4 4))))))))
@@ -100,11 +117,19 @@ pub record TraceCases : Type 0 where
   pub intake-0 : map (intakeIn 0) (0 ∷ 6 ∷ []) ≡ 0 ∷ 0 ∷ []
   pub intake-1 : map (intakeIn 1) (0 ∷ 1 ∷ 2 ∷ 3 ∷ 4 ∷ 5 ∷ 6 ∷ 7 ∷ []) ≡ 0 ∷ 1 ∷ 1 ∷ 3 ∷ 4 ∷ 4 ∷ 6 ∷ 6 ∷ []
   pub intake-2 : map (intakeIn 2) (1 ∷ 2 ∷ 4 ∷ 5 ∷ []) ≡ 0 ∷ 2 ∷ 2 ∷ 5 ∷ []
+  pub intake-newest : map (λ t. forksForward t .answer .intake) (0 ∷ 3 ∷ 4 ∷ []) ≡ 0 ∷ 3 ∷ 4 ∷ []
   pub intake-start : forwardOf (versionsUsed 6) notEntered 1 9 (replicate 6 9) (replicate 4 9) .answer ≡ record { refusal = 0; count = 1; intake = 6 }
   pub intake-greatest : greatestOr 7 (3 ∷ 5 ∷ 4 ∷ []) ≡ 5
   -- "from every other marked version, all entering edges", those later than t too
   pub later-edge : map (λ t. widenedLater t .work) (1 ∷ 2 ∷ []) ≡ (0 ∷ 0 ∷ 1 ∷ []) ∷ (1 ∷ 1 ∷ 1 ∷ []) ∷ []
+  -- an edge row that is not in use is not followed
+  pub unused-backward : backwardOf (counts 2 2 0 2 5) full 1 9 (9 ∷ 9 ∷ []) (9 ∷ 9 ∷ []) ≡ backwardTo 1 (0 ∷ 1 ∷ []) (0 ∷ 1 ∷ [])
+  pub unused-forward : forwardOf (counts 2 2 0 2 5) full 0 9 (9 ∷ 9 ∷ []) (9 ∷ 9 ∷ []) ≡ forwardTo 1 0 (1 ∷ 0 ∷ []) (1 ∷ 0 ∷ [])
+  pub unused-intake : forwardOf (counts 2 2 0 2 5) full 1 9 (9 ∷ 9 ∷ []) (9 ∷ 9 ∷ []) ≡ forwardTo 1 0 (0 ∷ 1 ∷ []) (0 ∷ 1 ∷ [])
   -- "on the chain from its latest through previous"
+  pub chain-backward : map threeBackward (0 ∷ 2 ∷ 3 ∷ 5 ∷ 6 ∷ []) ≡ (1 ∷ 0 ∷ 0 ∷ []) ∷ (1 ∷ 0 ∷ 0 ∷ []) ∷ (1 ∷ 1 ∷ 0 ∷ []) ∷ (1 ∷ 1 ∷ 0 ∷ []) ∷ (1 ∷ 1 ∷ 1 ∷ []) ∷ []
+  pub chain-forward : map threeForward (0 ∷ 2 ∷ 3 ∷ 5 ∷ 6 ∷ []) ≡ (1 ∷ 1 ∷ 1 ∷ []) ∷ (1 ∷ 1 ∷ 1 ∷ []) ∷ (0 ∷ 1 ∷ 1 ∷ []) ∷ (0 ∷ 1 ∷ 1 ∷ []) ∷ (0 ∷ 0 ∷ 1 ∷ []) ∷ []
+  pub chain-marks : map threeMarks (0 ∷ 6 ∷ []) ≡ (1 ∷ []) ∷ (1 ∷ []) ∷ []
   pub branched-backward : map branchedBackward (4 ∷ 9 ∷ []) ≡ (1 ∷ 1 ∷ 0 ∷ 0 ∷ 0 ∷ 0 ∷ []) ∷ (1 ∷ 1 ∷ 0 ∷ 1 ∷ 0 ∷ 0 ∷ []) ∷ []
   -- "going from a version to each one whose previous it is"
   pub branched-forward : map branchedForward (4 ∷ 9 ∷ []) ≡ (1 ∷ 1 ∷ 1 ∷ 1 ∷ 0 ∷ 1 ∷ []) ∷ (0 ∷ 0 ∷ 1 ∷ 1 ∷ 0 ∷ 0 ∷ []) ∷ []
