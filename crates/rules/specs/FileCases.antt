@@ -62,6 +62,15 @@ numberedSubject = records.Declaration (record { sort = 1; entity = entityNo 1541
 abbrev pub numberedSubjectBytes : List ℕ
 numberedSubjectBytes = 0 ∷ 1 ∷ 5 ∷ 6 ∷ replicate 8 0
 
+abbrev pub greatest : Record
+greatest = records.Event (record { kind = Execve; source = entityNo 65535; target = entityNo 65535; time = 4294967295 })
+
+abbrev pub greatestBytes : List ℕ
+greatestBytes = 5 ∷ 0 ∷ 255 ∷ 255 ∷ 255 ∷ 255 ∷ 0 ∷ 0 ∷ 255 ∷ 255 ∷ 255 ∷ 255 ∷ []
+
+abbrev pub greatestObject : Record
+greatestObject = records.Declaration (record { sort = 0; entity = entityNo 65535 })
+
 abbrev pub encodedKind : Kind → ℕ
 encodedKind k = getD (encodeOf (records.Event (record { kind = k; source = entityNo 0; target = entityNo 1; time = 1 }))) 0 0
 
@@ -94,6 +103,8 @@ pub record FileCases : Type 0 where
   pub decoded-declaration : decodeOf numberedSubjectBytes ≡ Whole numberedSubject
   pub encoded-event : encodeOf numbered ≡ numberedBytes
   pub encoded-declaration : encodeOf numberedSubject ≡ numberedSubjectBytes
+  pub decoded-greatest : decodeOf greatestBytes ≡ Whole greatest
+  pub encoded-greatest : map encodeOf (greatest ∷ greatestObject ∷ []) ≡ greatestBytes ∷ (0 ∷ 0 ∷ 255 ∷ 255 ∷ replicate 8 0) ∷ []
   pub encoded-kinds : map encodedKind (Read ∷ Write ∷ Load ∷ Fork ∷ Execve ∷ []) ≡ 1 ∷ 2 ∷ 3 ∷ 4 ∷ 5 ∷ []
   -- the greatest time, and none above it
   pub greatest-time : takenIn (declare 0 0 ++ (declare 1 1 ++ readAt 255 255 255 255)) .counts ≡ counts 2 2 1 1 4294967295
