@@ -66,18 +66,21 @@ module _ (c : Counts) (t : Tables) (rs : List Record) (k : Known (trailOf c t) (
     }
 
   module _ (s : isSound (capacityOf t) T ≡ true) (x time : ℕ) (work marks : List ℕ) where
+    rightly : {n : ℕ} → n ≡ numberOf (firstOf (traceChecks c t x work marks)) → Rightly n
+    rightly p = subst Rightly (sym p) (number-sound c t x work marks s)
+
     passed : {n : ℕ} → n ≡ numberOf (firstOf (traceChecks c t x work marks)) → n ≡ 0 → x < c .entities
     passed p q = passed-entity c t x work marks (number-passed c t x work marks (sym p ∙ q))
 
     backward-answer : BackwardsAgree rs c t x time work marks
     backward-answer b r = record {
-      refusal = subst Rightly (sym (r .refusal)) (number-sound c t x work marks s);
+      refusal = rightly (r .refusal);
       agrees = λ q. backward-agrees x time work marks (passed (r .refusal) q) (r .traced q);
     }
 
     forward-answer : ForwardsAgree rs c t x time work marks
     forward-answer f r = record {
-      refusal = subst Rightly (sym (r .refusal)) (number-sound c t x work marks s);
+      refusal = rightly (r .refusal);
       agrees = λ q. forward-agrees x time work marks (passed (r .refusal) q) (r .traced q);
     }
 

@@ -23,5 +23,13 @@ pub mod Times
 pub mod TakenAll
 pub mod Log
 pub mod RoundTrip
+-- Wrong answers contradict the claims
+pub mod Determined
+pub mod WorkedAnswers
+pub mod NoEdge
+pub mod WorkedEvents
+pub mod LongerPaths
+pub mod GainDropped
+pub mod Refuted
 -- What the public calls carry
 pub mod Promises

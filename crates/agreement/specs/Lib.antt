@@ -4,6 +4,8 @@ pub mod Left
 pub mod Demand2
 pub mod Demand3
 pub mod RoundTrip
+-- wrong answers that the claims rule out
+pub mod Refuted
 -- what the public calls carry of them
 pub mod Promises
 -- plain lists, for the proofs

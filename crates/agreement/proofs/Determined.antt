@@ -1,0 +1,71 @@
+-- The claims determine the answers: a byte is 0 or 1 and says whether the claim's relation holds; a relation has one count and one
+-- latest intake; rows and counts are given by equations; a plain list grew by as many records as it is longer.
+use Prim.Native.Nat.{ℕ, _+_}
+use native.Mathlib.Omega.{arith}
+use mathlib.Core.Path.{_≡_, sym, _∙_, ap}
+use mathlib.Core.Logic.{_⊎_, inl, inr}
+use mathlib.Core.List.{List, [], _∷_, reverseAux, reverseAux-eq}
+use lib.ListN.{length, getD, take}
+use lib.Seq.{length-take-le}
+use Rattle.rows.specs.declared.Counts.{Counts}
+use Rattle.record.specs.declared.Record.{Record}
+use Rattle.rules.specs.Trail.{Tables, trailOf}
+use Rattle.rules.specs.PlainList.{itemsOf}
+use Rattle.closure.specs.Same.{SameRows}
+use Rattle.closure.proofs.Descending.{count-one}
+use Rattle.causality.proofs.IntakeTime.{latestTime-one}
+use Rattle.agreement.specs.Demand2.{Holds, GrownBy}
+use Rattle.agreement.specs.Demand3.{MarksAre}
+use Rattle.agreement.specs.Refuted.{SameMarks, Determined}
+
+module _ {n : ℕ} {M : ℕ → Type 0} {marks marks′ : List ℕ} {k k′ : ℕ} (a : MarksAre n M marks k) (b : MarksAre n M marks′ k′) where
+  marks-one : SameMarks n marks marks′
+  marks-one x l = go (a .bits x l) (b .bits x l)
+    where
+      go : (getD marks x 0 ≡ 0) ⊎ (getD marks x 0 ≡ 1) → (getD marks′ x 0 ≡ 0) ⊎ (getD marks′ x 0 ≡ 1) → getD marks x 0 ≡ getD marks′ x 0
+      go (inl p) (inl q) = p ∙ sym q
+      go (inl p) (inr q) = absurd (omega (arith, a .marked x l .1 (b .marked x l .0 q)))
+      go (inr p) (inl q) = absurd (omega (arith, b .marked x l .1 (a .marked x l .0 p)))
+      go (inr p) (inr q) = p ∙ sym q
+
+  count-same : k ≡ k′
+  count-same = count-one (a .counted) (b .counted)
+
+module _ (rs : List Record) (c c′ : Counts) (t t′ : Tables) (h : Holds rs c t) (h′ : Holds rs c′ t′) where
+  counts-one : c ≡ c′
+  counts-one = h .counts ∙ sym (h′ .counts)
+
+  rows-one : SameRows (trailOf c t) (trailOf c′ t′)
+  rows-one =
+      let e : c .entities ≡ c′ .entities = ap (λ (z : Counts). z .entities) counts-one in
+      let v : c .versions ≡ c′ .versions = ap (λ (z : Counts). z .versions) counts-one in
+      let d : c .edges ≡ c′ .edges = ap (λ (z : Counts). z .edges) counts-one in
+      record {
+        entities = e;
+        versions = v;
+        edges = d;
+        entity-rows = λ k l. h .entity-rows k l ∙ sym (h′ .entity-rows k (omega arith));
+        version-rows = λ k l. h .version-rows k l ∙ sym (h′ .version-rows k (omega arith));
+        edge-rows = λ k l. h .edge-rows k l ∙ sym (h′ .edge-rows k (omega arith));
+      }
+
+-- a list turned round onto another has the elements of both
+length-onto : (l r : List Record) → length (reverseAux l r) ≡ length l + length r
+length-onto [] r = omega arith
+length-onto (x ∷ l) r = omega (arith, length-onto l (x ∷ r))
+
+grown-length : (n : ℕ) (more rs rs′ : List Record) → GrownBy n more rs rs′ → length rs′ ≡ n + length rs
+grown-length n more rs rs′ g =
+    ap length (g .grown ∙ sym (reverseAux-eq (take n more) rs)) ∙ length-onto (take n more) rs ∙ ap (λ (k : ℕ). k + length rs) (length-take-le n more (g .among))
+
+pub determined : Determined
+determined = record {
+  backward = λ rs v time b b′ a a′. (marks-one a a′, count-same a a′);
+  forward = λ rs u time f f′ a a′. (
+    marks-one (a .marks) (a′ .marks),
+    count-same (a .marks) (a′ .marks),
+    latestTime-one u time (itemsOf rs) _ (a .intake) ∙ sym (latestTime-one u time (itemsOf rs) _ (a′ .intake)),
+  );
+  holds = λ rs c c′ t t′ h h′. (counts-one rs c c′ t t′ h h′, rows-one rs c c′ t t′ h h′);
+  taken = λ n n′ more rs rs′ g g′. omega (arith, grown-length n more rs rs′ g, grown-length n′ more rs rs′ g′);
+}

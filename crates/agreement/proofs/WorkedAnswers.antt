@@ -1,0 +1,108 @@
+-- The only answers that the claims allow for the worked list of calls. The computed answer agrees, by demands 2 and 3; two answers that
+-- agree are the same; and the rows of the worked trail say what the computed one is.
+use Prim.Native.Nat.{ℕ}
+use native.Mathlib.Omega.{arith}
+use mathlib.Core.Path.{_≡_, refl, sym, _∙_, ap}
+use mathlib.Core.List.{List, []}
+use lib.ListN.{getD}
+use Rattle.rows.specs.declared.Counts.{Counts}
+use Rattle.rows.specs.declared.EntityRow.{EntityRow}
+use Rattle.rows.specs.declared.VersionRow.{VersionRow}
+use Rattle.rows.specs.declared.EdgeRow.{EdgeRow}
+use Rattle.rows.specs.Rows.{entityRow, versionRow, edgeRow, entityAt, versionAt, edgeAt}
+use Rattle.rules.specs.declared.BackwardAnswer.{BackwardAnswer}
+use Rattle.rules.specs.declared.ForwardAnswer.{ForwardAnswer}
+use Rattle.rules.specs.Trail.{Tables, trailOf, counts, freshCounts, none}
+use Rattle.rules.specs.Backward.{BackwardTrace}
+use Rattle.rules.specs.Forward.{ForwardTrace}
+use Rattle.rules.specs.PlainList.{worked}
+use Rattle.rules.specs.Worked.{room, file, batch, backward, forward, WorkedTrail}
+use Rattle.rules.proofs.Cases.{cases}
+use Rattle.closure.specs.Same.{SameRows}
+use Rattle.closure.proofs.ByRelations.{traces-by-relations}
+use Rattle.agreement.specs.Left.{LeftBy}
+use Rattle.agreement.specs.Demand2.{Holds}
+use Rattle.agreement.specs.Demand3.{BackwardAgrees, ForwardAgrees}
+use Rattle.agreement.specs.Refuted.{SameMarks, workedCalls, workedPlain, TakenClaim}
+use Rattle.agreement.proofs.Left.{leaving}
+use Rattle.agreement.proofs.Demand2.{demand2}
+use Rattle.agreement.proofs.Demand3.{demand3}
+use Rattle.agreement.proofs.Determined.{determined}
+
+pub rows : WorkedTrail
+rows = cases .0
+
+worked-left : LeftBy (workedCalls 8) (batch 8 .counts) (batch 8 .tables)
+unfolding batch
+worked-left = leaving .batch [] freshCounts (room 8) (leaving .fresh (room 8)) (file 1)
+
+-- Counts and tables
+
+worked-holds : Holds workedPlain (batch 8 .counts) (batch 8 .tables)
+worked-holds = demand2 .holds (workedCalls 8) _ _ worked-left
+
+module _ {c : Counts} {t : Tables} (h : Holds workedPlain c t) where
+  abbrev same : (c ≡ batch 8 .counts) × SameRows (trailOf c t) (trailOf (batch 8 .counts) (batch 8 .tables))
+  same = determined .holds workedPlain c (batch 8 .counts) t (batch 8 .tables) h worked-holds
+
+  counts-are : c ≡ counts 4 5 4 7 7
+  counts-are = same .0 ∙ rows .p1-counts
+
+  pub entities-are : c .entities ≡ 4
+  entities-are = ap (λ (z : Counts). z .entities) counts-are
+
+  pub versions-are : c .versions ≡ 5
+  versions-are = ap (λ (z : Counts). z .versions) counts-are
+
+  pub edges-are : c .edges ≡ 4
+  edges-are = ap (λ (z : Counts). z .edges) counts-are
+
+  pub accepted-are : c .accepted ≡ 7
+  accepted-are = ap (λ (z : Counts). z .accepted) counts-are
+
+  pub last-is : c .last ≡ 7
+  last-is = ap (λ (z : Counts). z .last) counts-are
+
+  pub stager-row : entityAt (t .entities) 1 ≡ entityRow 1 4
+  stager-row = same .1 .entity-rows 1 (omega (arith, entities-are)) ∙ ap (λ (l : List EntityRow). getD l 1 (entityRow 0 0)) (rows .p1-entities)
+
+  pub report-version : versionAt (t .versions) 2 ≡ versionRow 2 0 6 none
+  report-version = same .1 .version-rows 2 (omega (arith, versions-are)) ∙ ap (λ (l : List VersionRow). getD l 2 (versionRow 0 0 0 0)) (rows .p1-versions)
+
+  pub edge-at-6 : edgeAt (t .edges) 3 ≡ edgeRow 4 2 2 6
+  edge-at-6 = same .1 .edge-rows 3 (omega (arith, edges-are)) ∙ ap (λ (l : List EdgeRow). getD l 3 (edgeRow 0 0 0 0)) (rows .p1-edges)
+
+-- How many records a batch took in, lent n edge rows
+
+pub taken-is : (n k : ℕ) → TakenClaim n k → k ≡ batch n .answer .taken
+unfolding batch
+taken-is n k g = determined .taken k _ _ [] _ g (demand2 .answer [] freshCounts (room n) (leaving .fresh (room n)) (file 1) .taken)
+
+-- Traces
+
+pub four : worked workedPlain .counts .entities ≡ 4
+four = ap (λ (c : Counts). c .entities) (sym (worked-holds .counts)) ∙ entities-are worked-holds
+
+-- the same bytes for the four entities
+marks-are : (marks : List ℕ) {marks′ left : List ℕ} → SameMarks (worked workedPlain .counts .entities) marks marks′ → marks′ ≡ left → SameMarks 4 marks left
+marks-are marks s q x l = s x (omega (arith, four)) ∙ ap (λ (m : List ℕ). getD m x 0) q
+
+module _ {v time n : ℕ} {marks : List ℕ} (q : (backward v time .answer ≡ record { refusal = 0; count = n }) × (backward v time .marks ≡ marks)) where
+  pub backward-right : BackwardAgrees workedPlain v time (backward v time)
+  unfolding backward
+  backward-right = demand3 (workedCalls 8) _ _ worked-left .1 .backward v time _ _ _ (traces-by-relations .backward _ _ v time _ _ _ .0 refl) .agrees (ap (λ (a : BackwardAnswer). a .refusal) (q .0))
+
+  pub backward-is : (b : BackwardTrace) → BackwardAgrees workedPlain v time b → SameMarks 4 (b .marks) marks × (b .answer .count ≡ n)
+  backward-is b a =
+      let s = determined .backward workedPlain v time b (backward v time) a backward-right in
+      (marks-are (b .marks) (s .0) (q .1), s .1 ∙ ap (λ (r : BackwardAnswer). r .count) (q .0))
+
+module _ {u time n i : ℕ} {marks : List ℕ} (q : (forward u time .answer ≡ record { refusal = 0; count = n; intake = i }) × (forward u time .marks ≡ marks)) where
+  forward-right : ForwardAgrees workedPlain u time (forward u time)
+  unfolding forward
+  forward-right = demand3 (workedCalls 8) _ _ worked-left .1 .forward u time _ _ _ (traces-by-relations .forward _ _ u time _ _ _ .0 refl) .agrees (ap (λ (a : ForwardAnswer). a .refusal) (q .0))
+
+  pub forward-is : (f : ForwardTrace) → ForwardAgrees workedPlain u time f → SameMarks 4 (f .marks) marks × (f .answer .count ≡ n) × (f .answer .intake ≡ i)
+  forward-is f a =
+      let s = determined .forward workedPlain u time f (forward u time) a forward-right in
+      (marks-are (f .marks) (s .0) (q .1), s .1 ∙ ap (λ (r : ForwardAnswer). r .count) (q .0), s .2 ∙ ap (λ (r : ForwardAnswer). r .intake) (q .0))

@@ -1,0 +1,38 @@
+-- The plain lists of the refutations, computed from the bytes of the files: the events accepted, kept or dropped, and how many entities.
+use Prim.Native.Nat.{ℕ}
+use mathlib.Core.Path.{_≡_, refl}
+use mathlib.Core.List.{List, [], _∷_}
+use Rattle.refusals.specs.Refusals.{firstOf}
+use Rattle.rows.specs.Rows.{entityNo, entityAt, versionAt, edgeAt}
+use Rattle.rows.specs.Capacity.{entityCapacity, versionCapacity, edgeCapacity}
+use Rattle.record.specs.declared.Kind.{Kind}
+use Rattle.record.specs.declared.Kind.the-variants.{Read, Write}
+use Rattle.record.specs.declared.Event.{Event}
+use Rattle.record.specs.Layout.{kindOf}
+use Rattle.record.specs.Header.{headerChecks}
+use Rattle.record.specs.Decode.{declarationChecks, eventChecks, decodeOf, decodeFrom}
+use Rattle.rules.specs.Sound.{isObject, isSubject, sourceFits, targetFits, mayFollow}
+use Rattle.rules.specs.Decide.{goesTo, newestTo, leaves, repeatOf, hasOutgoing, decisionOf}
+use Rattle.rules.specs.Record.{declarationRefusals, endRefusals, timeRefusals, roomRefusals, eventRefusals, refusalOf, changeOf}
+use Rattle.rules.specs.Batch.{readFrom, contentsOf}
+use Rattle.rules.specs.History.{Item, kept, dropped}
+use Rattle.rules.specs.PlainList.{put, worked, itemsOf, added, addedBy}
+use Rattle.agreement.specs.Refuted.{workedPlain, longerPlain}
+
+abbrev pub event : Kind → ℕ → ℕ → ℕ → Event
+event k u v t = record { kind = k; source = entityNo u; target = entityNo v; time = t }
+
+abbrev pub items-by-5 : List Item
+items-by-5 = kept (event Read 3 1 5) ∷ dropped (event Write 1 2 4) ∷ dropped (event Read 0 1 3) ∷ kept (event Write 1 2 2) ∷ kept (event Read 0 1 1) ∷ []
+
+abbrev pub items-by-7 : List Item
+items-by-7 = dropped (event Read 3 1 7) ∷ kept (event Write 1 2 6) ∷ items-by-5
+
+pub record Computed : Type 0 where
+  pub items : itemsOf workedPlain ≡ items-by-7
+  pub longer : itemsOf longerPlain ≡ kept (event Write 1 3 8) ∷ items-by-7
+  pub entities : worked longerPlain .counts .entities ≡ 4
+
+pub computed : Computed
+unfolding firstOf entityAt versionAt edgeAt entityCapacity versionCapacity edgeCapacity kindOf headerChecks declarationChecks eventChecks decodeOf decodeFrom isObject isSubject sourceFits targetFits mayFollow goesTo newestTo leaves repeatOf hasOutgoing decisionOf declarationRefusals endRefusals timeRefusals roomRefusals eventRefusals refusalOf changeOf readFrom contentsOf put added addedBy
+computed = record { items = refl; longer = refl; entities = refl }

@@ -1,0 +1,156 @@
+-- Document 01, "Agreement": "These are shut out". The claims determine the answers (`Determined`), so a wrong one contradicts them.
+-- `Refuted` says it of each wrong answer that the document names, for the worked list of calls: no answer that is wrong in this way,
+-- whatever it is otherwise, is one of which the claim holds.
+use Prim.Native.Nat.{ℕ, _<_}
+use mathlib.Core.Path.{_≡_}
+use mathlib.Core.List.{List, [], _∷_, _++_, List·Memᴰ}
+use lib.ListN.{getD, replicate}
+use Rattle.refusals.specs.declared.Refusal.the-variants.{Unsound}
+use Rattle.refusals.specs.Refusals.{refusalNo}
+use Rattle.rows.specs.declared.Counts.{Counts}
+use Rattle.rows.specs.Rows.{entityAt, versionAt, edgeAt}
+use Rattle.record.specs.declared.Event.{Event}
+use Rattle.record.specs.declared.Record.{Record}
+use Rattle.rules.specs.Trail.{Tables, trailOf}
+use Rattle.rules.specs.Batch.{Batched, contentsOf}
+use Rattle.rules.specs.Backward.{BackwardTrace}
+use Rattle.rules.specs.Forward.{ForwardTrace}
+use Rattle.rules.specs.History.{Item, accepted, keptEvents}
+use Rattle.rules.specs.PlainList.{worked, itemsOf}
+use Rattle.rules.specs.Calls.{Call, batch, plainAfter}
+use Rattle.rules.specs.Worked as worked-trail
+use Rattle.closure.specs.Same.{SameRows}
+use Rattle.closure.specs.ByRelations.{IsBackwardTrace, IsForwardTrace}
+use Rattle.agreement.specs.Demand2.{Holds, GrownBy}
+use Rattle.agreement.specs.Demand3.{BackwardAgrees, ForwardAgrees, TraceAgrees, GainsAreKept, Agrees}
+use Rattle.agreement.specs.RoundTrip.{TakenAgain}
+
+-- the same bytes for n entities
+abbrev pub SameMarks : ℕ → List ℕ → List ℕ → Type 0
+SameMarks n marks marks′ = (x : ℕ) → x < n → getD marks x 0 ≡ getD marks′ x 0
+
+-- For any plain list, two answers of which a claim holds are the same
+pub record Determined : Type 0 where
+  pub backward : (rs : List Record) (v time : ℕ) (b b′ : BackwardTrace) → BackwardAgrees rs v time b → BackwardAgrees rs v time b′
+      → SameMarks (worked rs .counts .entities) (b .marks) (b′ .marks) × (b .answer .count ≡ b′ .answer .count)
+  pub forward : (rs : List Record) (u time : ℕ) (f f′ : ForwardTrace) → ForwardAgrees rs u time f → ForwardAgrees rs u time f′
+      → SameMarks (worked rs .counts .entities) (f .marks) (f′ .marks) × (f .answer .count ≡ f′ .answer .count) × (f .answer .intake ≡ f′ .answer .intake)
+  pub holds : (rs : List Record) (c c′ : Counts) (t t′ : Tables) → Holds rs c t → Holds rs c′ t′ → (c ≡ c′) × SameRows (trailOf c t) (trailOf c′ t′)
+  pub taken : (n n′ : ℕ) (more rs rs′ : List Record) → GrownBy n more rs rs′ → GrownBy n′ more rs rs′ → n ≡ n′
+
+-- The worked list of calls: one batch of the worked file into a fresh trail, with n edge rows lent; and its plain list
+abbrev pub workedCalls : ℕ → List Call
+workedCalls n = batch (worked-trail.room n) (worked-trail.file 1) ∷ []
+
+abbrev pub workedPlain : List Record
+workedPlain = plainAfter (workedCalls 8)
+
+-- with one event more at the end of the file, at time 8: write 1 to 3
+abbrev pub longerPlain : List Record
+longerPlain = plainAfter (batch (worked-trail.room 8) (worked-trail.file 1 ++ (2 ∷ 0 ∷ 1 ∷ 0 ∷ 3 ∷ 0 ∷ 0 ∷ 0 ∷ 8 ∷ 0 ∷ 0 ∷ 0 ∷ [])) ∷ [])
+
+-- The claims, of any answer
+
+abbrev pub BackwardClaim : List Record → ℕ → ℕ → BackwardTrace → Type 0
+BackwardClaim rs v time b = TraceAgrees (b .answer .refusal) (BackwardAgrees rs v time b)
+
+abbrev pub ForwardClaim : List Record → ℕ → ℕ → ForwardTrace → Type 0
+ForwardClaim rs u time f = TraceAgrees (f .answer .refusal) (ForwardAgrees rs u time f)
+
+-- a batch, lent n edge rows, says that it took in k of the 11 records
+abbrev pub TakenClaim : ℕ → ℕ → Type 0
+TakenClaim n k = GrownBy k (contentsOf (worked-trail.file 1) .records) [] (plainAfter (workedCalls n))
+
+abbrev pub TakenAgainClaim : Batched → Type 0
+TakenAgainClaim b = TakenAgain (worked-trail.batch 8 .counts) (worked-trail.batch 8 .tables) b
+
+-- The claim holds of no wrong answer: of a trace that is not refused; of counts and tables
+
+abbrev pub NoBackward : List Record → ℕ → ℕ → (BackwardTrace → Type 0) → Type 0
+NoBackward rs v time Wrong = (b : BackwardTrace) → b .answer .refusal ≡ 0 → Wrong b → BackwardClaim rs v time b → ⊥
+
+abbrev pub NoForward : List Record → ℕ → ℕ → (ForwardTrace → Type 0) → Type 0
+NoForward rs u time Wrong = (f : ForwardTrace) → f .answer .refusal ≡ 0 → Wrong f → ForwardClaim rs u time f → ⊥
+
+abbrev pub NoTables : (Counts → Tables → Type 0) → Type 0
+NoTables Wrong = (c : Counts) (t : Tables) → Wrong c t → Holds workedPlain c t → ⊥
+
+-- of the four entities, x alone is marked
+abbrev pub OnlyMarked : ℕ → List ℕ → Type 0
+OnlyMarked x marks = (y : ℕ) → y < 4 → getD marks y 0 ≡ 1 → y ≡ x
+
+pub record Refuted : Type 0 where
+  -- "a trace marking only its own entity": P4, P5
+  pub backward-only-itself : NoBackward workedPlain 2 6 (λ b. OnlyMarked 2 (b .marks))
+  pub forward-only-itself : NoForward workedPlain 3 0 (λ f. OnlyMarked 3 (f .marks))
+  -- "or always the same marks": P2 against P4, P5 against P8
+  pub backward-same-marks : (b b′ : BackwardTrace) → b .answer .refusal ≡ 0 → b′ .answer .refusal ≡ 0 → SameMarks 4 (b .marks) (b′ .marks)
+      → BackwardClaim workedPlain 2 1 b → BackwardClaim workedPlain 2 6 b′ → ⊥
+  pub forward-same-marks : (f f′ : ForwardTrace) → f .answer .refusal ≡ 0 → f′ .answer .refusal ≡ 0 → SameMarks 4 (f .marks) (f′ .marks)
+      → ForwardClaim workedPlain 3 0 f → ForwardClaim workedPlain 0 4 f′ → ⊥
+  -- "Taking an edge from an older version of u for a repeat: time 6 is dropped and 2 vanishes from P5."
+  pub forward-report-missed : NoForward workedPlain 3 0 (λ f. getD (f .marks) 2 0 ≡ 0)
+  -- "Widening a version that already gave something: the montage appears in P3."
+  pub backward-montage-at-4 : NoBackward workedPlain 2 4 (λ b. getD (b .marks) 3 0 ≡ 1)
+  -- "Using all edges into the start version without looking at t: P3 again."
+  pub backward-montage-at-5 : NoBackward workedPlain 2 5 (λ b. getD (b .marks) 3 0 ≡ 1)
+  -- events at t or later alone: the stager and the report vanish from P8
+  pub forward-from-t-alone : NoForward workedPlain 0 4 (λ f. OnlyMarked 0 (f .marks))
+  -- edges followed against their direction: the study appears in P6
+  pub forward-study-at-4 : NoForward workedPlain 1 4 (λ f. getD (f .marks) 0 0 ≡ 1)
+  -- "its previous", and "going from a version to each one whose previous it is", left out: the edge from the study enters the stager's
+  -- first version, the edge to the montage at 8 leaves its second
+  pub backward-without-previous : NoBackward longerPlain 3 8 (λ b. getD (b .marks) 0 0 ≡ 0)
+  pub forward-without-version-steps : NoForward longerPlain 0 4 (λ f. getD (f .marks) 3 0 ≡ 0)
+  -- "through events accepted after the intake alone": the stager, which the montage gave to before 8
+  pub forward-before-intake : NoForward longerPlain 3 8 (λ f. getD (f .marks) 1 0 ≡ 1)
+  -- "the mark buffer gets 1 .., else 0": no other byte
+  pub backward-other-byte : NoBackward workedPlain 2 4 (λ b. (getD (b .marks) 3 0 ≡ 0 → ⊥) × (getD (b .marks) 3 0 ≡ 1 → ⊥))
+  pub forward-other-byte : NoForward workedPlain 1 4 (λ f. (getD (f .marks) 0 0 ≡ 0 → ⊥) × (getD (f .marks) 0 0 ≡ 1 → ⊥))
+  -- "the count is the number of ones in the mark buffer"
+  pub backward-other-count : NoBackward workedPlain 2 6 (λ b. (b .answer .count ≡ 4 → ⊥))
+  pub forward-other-count : NoForward workedPlain 3 0 (λ f. (f .answer .count ≡ 3 → ⊥))
+  -- "intakes picked freely": 0, or any but that of P6
+  pub intake-zero : NoForward workedPlain 1 4 (λ f. f .answer .intake ≡ 0)
+  pub intake-free : NoForward workedPlain 1 4 (λ f. (f .answer .intake ≡ 1 → ⊥))
+  -- "In such a list a trace is refused only with 5 or 14."
+  pub backward-refused : (b : BackwardTrace) → b .answer .refusal ≡ refusalNo Unsound → BackwardClaim workedPlain 2 6 b → ⊥
+  pub forward-refused : (f : ForwardTrace) → f .answer .refusal ≡ refusalNo Unsound → ForwardClaim workedPlain 3 0 f → ⊥
+  -- refused though the entity is declared and the buffers are long enough: "Each refusal is given when its condition is the first to
+  -- hold in this order, and never otherwise."
+  pub backward-always-refused : (b : BackwardTrace) → (b .answer .refusal ≡ 0 → ⊥)
+      → IsBackwardTrace (worked-trail.batch 8 .counts) (worked-trail.batch 8 .tables) 2 6 (replicate 6 9) (replicate 5 9) b → ⊥
+  pub forward-always-refused : (f : ForwardTrace) → (f .answer .refusal ≡ 0 → ⊥)
+      → IsForwardTrace (worked-trail.batch 8 .counts) (worked-trail.batch 8 .tables) 3 0 (replicate 6 9) (replicate 5 9) f → ⊥
+  -- "a trail that keeps no edge (demands 2 and 3)"; time 6 dropped
+  pub no-edge : NoTables (λ c t. c .edges ≡ 0)
+  pub no-edge-traced : (c : Counts) (t : Tables) → c .entities ≡ 4 → c .edges ≡ 0 → Agrees workedPlain c t → ⊥
+  pub time-6-dropped : NoTables (λ c t. c .edges ≡ 3)
+  -- every version widened; a new version for every kept event
+  pub widen-always : NoTables (λ c t. c .versions ≡ 4)
+  pub renew-always : NoTables (λ c t. c .versions ≡ 8)
+  -- "one that handles the first record and skips the rest", in the counts; by what it says it took in, below
+  pub first-record-counted : NoTables (λ c t. c .entities ≡ 1)
+  -- "accepted counts .. picked freely"; a last time that a repeat does not set
+  pub accepted-free : NoTables (λ c t. (c .accepted ≡ 7 → ⊥))
+  pub last-without-repeat : NoTables (λ c t. c .last ≡ 6)
+  -- rows of P1: the edge at 6 from the stager's older version; the report's end as at 2; the stager's latest version not the new one
+  pub edge-from-older : NoTables (λ c t. edgeAt (t .edges) 3 .from .0 ≡ 1)
+  pub end-not-widened : NoTables (λ c t. versionAt (t .versions) 2 .end ≡ 2)
+  pub latest-not-new : NoTables (λ c t. entityAt (t .entities) 1 .latest .0 ≡ 1)
+  -- "a call refusing all files"; the first record alone
+  pub all-refused : TakenClaim 8 0 → ⊥
+  pub first-record-taken : TakenClaim 8 1 → ⊥
+  -- "no row left" while a row is left: the event at 6 refused with eight edge rows; P10, the event at 7 with four
+  pub no-row-left : TakenClaim 8 9 → ⊥
+  pub full-before-repeat : TakenClaim 4 10 → ⊥
+  -- more records than the file has
+  pub more-than-the-file : TakenClaim 8 12 → ⊥
+  -- The same events accepted and none kept at 6, as when no edge is kept: 2 gains 3 by it
+  pub gain-dropped : (hs : List Item) → accepted hs ≡ accepted (itemsOf workedPlain) → ((e : Event) → List·Memᴰ e (keptEvents hs) → e .time ≡ 6 → ⊥)
+      → GainsAreKept hs → ⊥
+  -- a version for each accepted event, besides the entities'
+  pub version-each-event : (c : Counts) (t : Tables) → c .entities ≡ 4 → c .edges ≡ 4 → c .versions ≡ 11 → Agrees workedPlain c t → ⊥
+  -- the kept log without its events, or not taken in whole
+  pub log-of-no-event : (b : Batched) → b .counts .edges ≡ 0 → TakenAgainClaim b → ⊥
+  pub log-refused : (b : Batched) → (b .answer .refusal ≡ 0 → ⊥) → TakenAgainClaim b → ⊥
