@@ -3,11 +3,14 @@
 use Prim.Native.Nat.{ℕ, _<_}
 use native.Mathlib.Omega.{arith}
 use mathlib.Core.Path.{_≡_, sym, _∙_, subst}
-use mathlib.Core.Logic.{_⊎_, _↔_, Iff·trans}
-use mathlib.Core.Bool.{true}
+use mathlib.Core.Logic.{_↔_, Iff·trans}
+use mathlib.Core.Bool.{true, cond}
 use mathlib.Core.List.{List, [], _∷_}
+use lib.ListN.{length}
+use lib.Dec.{leb, ltb}
 use Rattle.refusals.specs.declared.Refusal.the-variants.{Undeclared, BufferShort}
-use Rattle.refusals.specs.Refusals.{firstOf, refusalNo, numberOf}
+use Rattle.refusals.specs.declared.Checked.the-variants.{Passed, Refused}
+use Rattle.refusals.specs.Refusals.{firstOf, numberOf}
 use Rattle.rows.specs.declared.Counts.{Counts}
 use Rattle.record.specs.declared.Record.{Record}
 use Rattle.rules.specs.Trail.{Tables, capacityOf, Trail, trailOf}
@@ -20,9 +23,9 @@ use Rattle.rules.specs.Calls.{Call, batch, backward, forward, heldAfter, Lent, 
 use Rattle.rules.proofs.Intake.{intakeOf-is, intake-one}
 use Rattle.closure.specs.ByRelations.{CountOf, HasMarkedVersion, Marking, BackwardTraced, ForwardTraced}
 use Rattle.closure.proofs.Traces.{passed-entity}
-use Rattle.closure.proofs.Checked.{number-passed, number-sound}
+use Rattle.closure.proofs.Checked.{number-passed}
 use Rattle.causality.proofs.Theorem.{claims}
-use Rattle.agreement.specs.Demand3.{MarksAre, BackwardAgrees, ForwardAgrees, BackwardsAgree, ForwardsAgree, Agrees, TracesAgree, Demand3}
+use Rattle.agreement.specs.Demand3.{traceRefusals, MarksAre, BackwardAgrees, ForwardAgrees, BackwardsAgree, ForwardsAgree, Agrees, TracesAgree, Demand3}
 use Rattle.agreement.proofs.Plain.{Fine, taken-fine}
 use Rattle.agreement.proofs.Matching.{Matches, matches, lent-sound}
 use Rattle.agreement.proofs.Held.{marked-some, Known, known}
@@ -31,10 +34,6 @@ use Rattle.agreement.proofs.Left.{left-by}
 -- of the same numbers there are as many
 countOf-iff : {M N : ℕ → Type 0} {n : ℕ} → ((x : ℕ) → M x ↔ N x) → CountOf M n → CountOf N n
 countOf-iff h r = record { list = r .list; once = r .once; has = λ x. Iff·trans (r .has x) (h x); count-is = r .count-is }
-
--- the number that a trace over sound tables returns
-abbrev Rightly : ℕ → Type 0
-Rightly n = (n ≡ 0) ⊎ ((n ≡ refusalNo Undeclared) ⊎ (n ≡ refusalNo BufferShort))
 
 module _ (c : Counts) (t : Tables) (rs : List Record) (k : Known (trailOf c t) (worked rs .counts .entities) (itemsOf rs)) where
   abbrev T : Trail
@@ -65,9 +64,21 @@ module _ (c : Counts) (t : Tables) (rs : List Record) (k : Known (trailOf c t) (
           (omega (arith, k .entities), z .marking .entities .marked y l .1 e);
     }
 
-  module _ (s : isSound (capacityOf t) T ≡ true) (x time : ℕ) (work marks : List ℕ) where
+  -- over sound tables with the counts of the plain list, a trace is refused for what the plain list says
+  module _ (s : isSound (capacityOf t) T ≡ true) (same : c ≡ worked rs .counts) (x time : ℕ) (work marks : List ℕ) where
+    checks-same : numberOf (firstOf (traceChecks c t x work marks)) ≡ numberOf (firstOf (traceRefusals rs x work marks))
+    unfolding traceChecks traceRefusals firstOf
+    checks-same =
+        rw s (λ j.
+        numberOf
+        (cond (leb (same j .entities) x) (Refused Undeclared)
+        (cond (ltb (length work) (same j .versions)) (Refused BufferShort) (cond (ltb (length marks) (same j .entities)) (Refused BufferShort) Passed))))
+
+    abbrev Rightly : ℕ → Type 0
+    Rightly n = n ≡ numberOf (firstOf (traceRefusals rs x work marks))
+
     rightly : {n : ℕ} → n ≡ numberOf (firstOf (traceChecks c t x work marks)) → Rightly n
-    rightly p = subst Rightly (sym p) (number-sound c t x work marks s)
+    rightly p = p ∙ checks-same
 
     passed : {n : ℕ} → n ≡ numberOf (firstOf (traceChecks c t x work marks)) → n ≡ 0 → x < c .entities
     passed p q = passed-entity c t x work marks (number-passed c t x work marks (sym p ∙ q))
@@ -87,8 +98,8 @@ module _ (c : Counts) (t : Tables) (rs : List Record) (k : Known (trailOf c t) (
 held-agrees : (cs : List Call) → AllLent cs → (t : Tables) → Lent (heldAfter cs) t → Agrees (plainAfter cs) (heldAfter cs .counts) t
 held-agrees cs a t l = record {
   sound = s;
-  backward = backward-answer c t (plainAfter cs) (known _ _ m t l) s;
-  forward = forward-answer c t (plainAfter cs) (known _ _ m t l) s;
+  backward = backward-answer c t (plainAfter cs) (known _ _ m t l) s (sym (m .alike .counts));
+  forward = forward-answer c t (plainAfter cs) (known _ _ m t l) s (sym (m .alike .counts));
   gains = claims .document01 (f .grown) (f .falling) .gain;
   versions = omega (arith, claims .any-working (f .grown) .versions, m .alike .rows .entities, m .alike .rows .versions, m .alike .rows .edges);
 }

@@ -2,23 +2,21 @@
 -- full list has a causal path from another.
 use Prim.Native.Nat.{ℕ}
 use native.Mathlib.Omega.{arith}
-use mathlib.Core.Path.{_≡_, refl, sym, _∙_, ap, subst}
+use mathlib.Core.Path.{_≡_, refl, sym, _∙_, subst}
 use mathlib.Core.List.{List}
-use lib.ListN.{length, replicate, length-replicate}
-use borrow.Author.Tests.{le-ltb, lt-leb}
-use Rattle.refusals.specs.declared.Checked.the-variants.{Passed}
-use Rattle.refusals.specs.Refusals.{firstOf, numberOf}
-use Rattle.refusals.proofs.Checks.{not-false-of, all-false-passed}
+use lib.ListN.{replicate}
 use Rattle.rows.specs.declared.Counts.{Counts}
 use Rattle.rules.specs.Trail.{Tables, Trail, trailOf}
 use Rattle.rules.specs.Start.{OnChain}
-use Rattle.rules.specs.Backward.{BackwardMarks, traceChecks, backwardOf}
+use Rattle.rules.specs.Backward.{BackwardMarks, backwardOf}
 use Rattle.soundness.proofs.Facts.{sound-rows}
 use Rattle.closure.proofs.StartVersion.{onChain-in}
+use Rattle.closure.proofs.Traces.{passed-entity}
+use Rattle.closure.proofs.Checked.{number-passed}
 use Rattle.closure.proofs.ByRelations.{traces-by-relations}
 use Rattle.agreement.specs.Demand3.{Agrees}
 use Rattle.agreement.specs.Refuted.{workedPlain}
-use Rattle.agreement.proofs.WorkedAnswers.{rows, backward-is}
+use Rattle.agreement.proofs.WorkedAnswers.{rows, not-refused, backward-is}
 
 on-chain : {T : Trail} {x s t a : ℕ} → T .counts .edges ≡ 0 → OnChain T x s → BackwardMarks T s t a → OnChain T x a
 on-chain {T} {x} e o (BackwardMarks.start q) = subst (OnChain T x) (sym q) o
@@ -26,30 +24,21 @@ on-chain e o (BackwardMarks.intoStart k l p i q) = absurd (omega arith)
 on-chain e o (BackwardMarks.intoOther k m n l p q) = absurd (omega arith)
 on-chain e o (BackwardMarks.previous m n q) = OnChain.previous (on-chain e o m) n q
 
-module _ (c : Counts) (t : Tables) (n : c .entities ≡ 4) (e : c .edges ≡ 0) (a : Agrees workedPlain c t) where
+module _ (c : Counts) (t : Tables) (e : c .edges ≡ 0) (a : Agrees workedPlain c t) where
   abbrev work : List ℕ
-  work = replicate (c .versions) 0
+  work = replicate 5 0
 
   abbrev marks : List ℕ
-  marks = replicate (c .entities) 0
-
-  passes : firstOf (traceChecks c t 2 work marks) ≡ Passed
-  unfolding traceChecks
-  passes =
-      all-false-passed _ (
-        not-false-of _ (a .sound),
-        (
-          lt-leb (c .entities) 2 (omega arith),
-          (le-ltb (length work) (c .versions) (omega (arith, length-replicate {A = ℕ} (c .versions) 0)), (le-ltb (length marks) (c .entities) (omega (arith, length-replicate {A = ℕ} (c .entities) 0)), tt)),
-        ),
-      )
+  marks = replicate 4 0
 
   pub no-edge-traced : ⊥
   no-edge-traced =
       let r = traces-by-relations .backward c t 2 6 work marks _ .0 refl in
-      let z : backwardOf c t 2 6 work marks .answer .refusal ≡ 0 = r .refusal ∙ ap numberOf passes in
+      let g = a .backward 2 6 work marks _ r in
+      let z : backwardOf c t 2 6 work marks .answer .refusal ≡ 0 = g .refusal ∙ not-refused 2 work marks (omega arith) (omega arith) (omega arith) in
+      let i = passed-entity c t 2 work marks (number-passed c t 2 work marks (sym (r .refusal) ∙ z)) in
       let b = r .traced z in
-      let y = backward-is (rows .p4) (backwardOf c t 2 6 work marks) (a .backward 2 6 work marks _ r .agrees z) .0 0 (omega arith) in
+      let y = backward-is (rows .p4) (backwardOf c t 2 6 work marks) (g .agrees z) .0 0 (omega arith) in
       let m = b .marking .entities .marked 0 (omega arith) .0 y in
-      let o = onChain-in (trailOf c t) (sound-rows _ _ (a .sound)) (omega arith) (on-chain e (b .is-start .on-chain) (m .1)) .1 in
+      let o = onChain-in (trailOf c t) (sound-rows _ _ (a .sound)) i (on-chain e (b .is-start .on-chain) (m .1)) .1 in
       omega (arith, m .2, o)

@@ -1,72 +1,68 @@
 -- Each wrong answer contradicts the claim: the worked list of calls has one answer (`WorkedAnswers`), and it is another.
 use Prim.Native.Nat.{ℕ}
 use native.Mathlib.Omega.{arith}
-use mathlib.Core.Path.{_≡_, _∙_, ap}
-use mathlib.Core.Logic.{_⊎_, inl, inr}
-use lib.ListN.{replicate}
+use mathlib.Core.Path.{_≡_, sym, _∙_, ap}
+use mathlib.Core.Bool.{Bool, true, false, cond}
+use mathlib.Core.List.{List}
+use lib.ListN.{length}
+use lib.Dec.{leb, ltb}
 use Rattle.refusals.specs.declared.Refusal.the-variants.{Unsound, Undeclared, BufferShort}
-use Rattle.refusals.specs.Refusals.{refusalNo}
+use Rattle.refusals.specs.declared.Checked.the-variants.{Passed, Refused}
+use Rattle.refusals.specs.Refusals.{firstOf, refusalNo, numberOf}
 use Rattle.rows.specs.declared.Counts.{Counts}
+use Rattle.record.specs.declared.Record.{Record}
 use Rattle.rows.specs.declared.EntityRow.{EntityRow}
 use Rattle.rows.specs.declared.VersionRow.{VersionRow}
 use Rattle.rows.specs.declared.EdgeRow.{EdgeRow}
 use Rattle.rules.specs.declared.BatchAnswer.{BatchAnswer}
-use Rattle.rules.specs.declared.BackwardAnswer.{BackwardAnswer}
-use Rattle.rules.specs.declared.ForwardAnswer.{ForwardAnswer}
-use Rattle.rules.specs.Backward.{BackwardTrace}
-use Rattle.rules.specs.Forward.{ForwardTrace}
-use Rattle.rules.specs.Worked.{batch, backward, forward}
-use Rattle.closure.specs.ByRelations.{IsBackwardTrace, IsForwardTrace}
-use Rattle.closure.proofs.ByRelations.{traces-by-relations}
-use Rattle.agreement.specs.Refuted.{TakenClaim, Refuted}
-use Rattle.agreement.proofs.WorkedAnswers.{rows, entities-are, versions-are, edges-are, accepted-are, last-is, stager-row, report-version, edge-at-6, taken-is, backward-is, forward-is}
+use Rattle.rules.specs.PlainList.{worked}
+use Rattle.agreement.specs.Demand3.{traceRefusals}
+use Rattle.agreement.specs.Refuted.{workedPlain, TakenClaim, Refuted}
+use Rattle.agreement.proofs.WorkedAnswers.{rows, entities-are, versions-are, edges-are, accepted-are, last-is, stager-row, report-version, edge-at-6, taken-is, not-refused, backward-is, forward-is}
 use Rattle.agreement.proofs.NoEdge.{no-edge-traced}
 use Rattle.agreement.proofs.LongerPaths.{montage-back, study-forward, montage-forward}
 use Rattle.agreement.proofs.GainDropped.{time-6-kept}
 
-refused-16 : {n : ℕ} → (n ≡ 0) ⊎ ((n ≡ refusalNo Undeclared) ⊎ (n ≡ refusalNo BufferShort)) → n ≡ refusalNo Unsound → ⊥
-refused-16 (inl p) q = omega arith
-refused-16 (inr (inl p)) q = omega arith
-refused-16 (inr (inr p)) q = omega arith
-
--- a call by the relations is the computed one, which is not refused
-backward-refusal : (b : BackwardTrace) → IsBackwardTrace (batch 8 .counts) (batch 8 .tables) 2 6 (replicate 6 9) (replicate 5 9) b → b .answer .refusal ≡ 0
-unfolding backward
-backward-refusal b r = ap (λ (a : BackwardTrace). a .answer .refusal) (traces-by-relations .backward _ _ 2 6 _ _ b .1 r) ∙ ap (λ (a : BackwardAnswer). a .refusal) (rows .p4 .0)
-
-forward-refusal : (f : ForwardTrace) → IsForwardTrace (batch 8 .counts) (batch 8 .tables) 3 0 (replicate 6 9) (replicate 5 9) f → f .answer .refusal ≡ 0
-unfolding forward
-forward-refusal f r = ap (λ (a : ForwardTrace). a .answer .refusal) (traces-by-relations .forward _ _ 3 0 _ _ f .1 r) ∙ ap (λ (a : ForwardAnswer). a .refusal) (rows .p5 .0)
+-- the plain list refuses no trace with 16
+not-16 : (rs : List Record) (x : ℕ) (work marks : List ℕ) → numberOf (firstOf (traceRefusals rs x work marks)) ≡ refusalNo Unsound → ⊥
+unfolding traceRefusals firstOf
+not-16 rs x work marks = go (leb (worked rs .counts .entities) x) (ltb (length work) (worked rs .counts .versions)) (ltb (length marks) (worked rs .counts .entities))
+  where
+    go : (a b d : Bool) → numberOf (cond a (Refused Undeclared) (cond b (Refused BufferShort) (cond d (Refused BufferShort) Passed))) ≡ refusalNo Unsound → ⊥
+    go true b d q = omega arith
+    go false true d q = omega arith
+    go false false true q = omega arith
+    go false false false q = omega arith
 
 eleven : (k : ℕ) → TakenClaim 8 k → k ≡ 11
 eleven k g = taken-is 8 k g ∙ ap (λ (a : BatchAnswer). a .taken) (rows .p1-answer)
 
 pub refuted : Refuted
 refuted = record {
-  backward-only-itself = λ b z w a. let e = w 0 (omega arith) (backward-is (rows .p4) b (a .agrees z) .0 0 (omega arith)) in omega arith;
-  forward-only-itself = λ f z w a. let e = w 1 (omega arith) (forward-is (rows .p5) f (a .agrees z) .0 1 (omega arith)) in omega arith;
-  backward-same-marks = λ b b′ z z′ s a a′.
+  backward-only-itself = λ work marks b z w a. let e = w 0 (omega arith) (backward-is (rows .p4) b (a .agrees z) .0 0 (omega arith)) in omega arith;
+  forward-only-itself = λ work marks f z w a. let e = w 1 (omega arith) (forward-is (rows .p5) f (a .agrees z) .0 1 (omega arith)) in omega arith;
+  backward-same-marks = λ work marks b b′ z z′ s a a′.
       omega (arith, s 0 (omega arith), backward-is (rows .p2) b (a .agrees z) .0 0 (omega arith), backward-is (rows .p4) b′ (a′ .agrees z′) .0 0 (omega arith));
-  forward-same-marks = λ f f′ z z′ s a a′.
+  forward-same-marks = λ work marks f f′ z z′ s a a′.
       omega (arith, s 0 (omega arith), forward-is (rows .p5) f (a .agrees z) .0 0 (omega arith), forward-is (rows .p8) f′ (a′ .agrees z′) .0 0 (omega arith));
-  forward-report-missed = λ f z w a. omega (arith, forward-is (rows .p5) f (a .agrees z) .0 2 (omega arith));
-  backward-montage-at-4 = λ b z w a. omega (arith, backward-is (rows .p3-at-4) b (a .agrees z) .0 3 (omega arith));
-  backward-montage-at-5 = λ b z w a. omega (arith, backward-is (rows .p3-at-5) b (a .agrees z) .0 3 (omega arith));
-  forward-from-t-alone = λ f z w a. let e = w 1 (omega arith) (forward-is (rows .p8) f (a .agrees z) .0 1 (omega arith)) in omega arith;
-  forward-study-at-4 = λ f z w a. omega (arith, forward-is (rows .p6) f (a .agrees z) .0 0 (omega arith));
-  backward-without-previous = λ b z w a. omega (arith, montage-back b (a .agrees z));
-  forward-without-version-steps = λ f z w a. omega (arith, study-forward f (a .agrees z));
-  forward-before-intake = λ f z w a. montage-forward f (a .agrees z) w;
-  backward-other-byte = λ b z w a. w .0 (backward-is (rows .p3-at-4) b (a .agrees z) .0 3 (omega arith));
-  forward-other-byte = λ f z w a. w .0 (forward-is (rows .p6) f (a .agrees z) .0 0 (omega arith));
-  backward-other-count = λ b z w a. w (backward-is (rows .p4) b (a .agrees z) .1);
-  forward-other-count = λ f z w a. w (forward-is (rows .p5) f (a .agrees z) .1);
-  intake-zero = λ f z w a. omega (arith, forward-is (rows .p6) f (a .agrees z) .2);
-  intake-free = λ f z w a. w (forward-is (rows .p6) f (a .agrees z) .2);
-  backward-refused = λ b z a. refused-16 (a .refusal) z;
-  forward-refused = λ f z a. refused-16 (a .refusal) z;
-  backward-always-refused = λ b w r. w (backward-refusal b r);
-  forward-always-refused = λ f w r. w (forward-refusal f r);
+  forward-report-missed = λ work marks f z w a. omega (arith, forward-is (rows .p5) f (a .agrees z) .0 2 (omega arith));
+  backward-montage-at-4 = λ work marks b z w a. omega (arith, backward-is (rows .p3-at-4) b (a .agrees z) .0 3 (omega arith));
+  backward-montage-at-5 = λ work marks b z w a. omega (arith, backward-is (rows .p3-at-5) b (a .agrees z) .0 3 (omega arith));
+  forward-from-t-alone = λ work marks f z w a. let e = w 1 (omega arith) (forward-is (rows .p8) f (a .agrees z) .0 1 (omega arith)) in omega arith;
+  forward-study-at-4 = λ work marks f z w a. omega (arith, forward-is (rows .p6) f (a .agrees z) .0 0 (omega arith));
+  backward-without-previous = λ work marks b z w a. omega (arith, montage-back b (a .agrees z));
+  forward-without-version-steps = λ work marks f z w a. omega (arith, study-forward f (a .agrees z));
+  forward-before-intake = λ work marks f z w a. montage-forward f (a .agrees z) w;
+  backward-other-byte = λ work marks b z w a. w .0 (backward-is (rows .p3-at-4) b (a .agrees z) .0 3 (omega arith));
+  forward-other-byte = λ work marks f z w a. w .0 (forward-is (rows .p6) f (a .agrees z) .0 0 (omega arith));
+  backward-other-count = λ work marks b z w a. w (backward-is (rows .p4) b (a .agrees z) .1);
+  forward-other-count = λ work marks f z w a. w (forward-is (rows .p5) f (a .agrees z) .1);
+  intake-zero = λ work marks f z w a. omega (arith, forward-is (rows .p6) f (a .agrees z) .2);
+  intake-free = λ work marks f z w a. w (forward-is (rows .p6) f (a .agrees z) .2);
+  backward-refused = λ work marks b z a. not-16 workedPlain 2 work marks (sym (a .refusal) ∙ z);
+  forward-refused = λ work marks f z a. not-16 workedPlain 3 work marks (sym (a .refusal) ∙ z);
+  backward-always-refused = λ work marks b l m w a. w (a .refusal ∙ not-refused 2 work marks (omega arith) l m);
+  forward-always-refused = λ work marks f l m w a. w (a .refusal ∙ not-refused 3 work marks (omega arith) l m);
   no-edge = λ c t w h. omega (arith, edges-are h);
   no-edge-traced = no-edge-traced;
   time-6-dropped = λ c t w h. omega (arith, edges-are h);

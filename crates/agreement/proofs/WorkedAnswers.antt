@@ -1,10 +1,13 @@
 -- The only answers that the claims allow for the worked list of calls. The computed answer agrees, by demands 2 and 3; two answers that
 -- agree are the same; and the rows of the worked trail say what the computed one is.
-use Prim.Native.Nat.{ℕ}
+use Prim.Native.Nat.{ℕ, _≤_, _<_}
 use native.Mathlib.Omega.{arith}
 use mathlib.Core.Path.{_≡_, refl, sym, _∙_, ap}
 use mathlib.Core.List.{List, []}
-use lib.ListN.{getD}
+use lib.ListN.{length, getD}
+use borrow.Author.Tests.{le-ltb, lt-leb}
+use Rattle.refusals.specs.Refusals.{firstOf, numberOf}
+use Rattle.refusals.proofs.Checks.{all-false-passed}
 use Rattle.rows.specs.declared.Counts.{Counts}
 use Rattle.rows.specs.declared.EntityRow.{EntityRow}
 use Rattle.rows.specs.declared.VersionRow.{VersionRow}
@@ -22,7 +25,7 @@ use Rattle.closure.specs.Same.{SameRows}
 use Rattle.closure.proofs.ByRelations.{traces-by-relations}
 use Rattle.agreement.specs.Left.{LeftBy}
 use Rattle.agreement.specs.Demand2.{Holds}
-use Rattle.agreement.specs.Demand3.{BackwardAgrees, ForwardAgrees}
+use Rattle.agreement.specs.Demand3.{BackwardAgrees, ForwardAgrees, traceRefusals}
 use Rattle.agreement.specs.Refuted.{SameMarks, workedCalls, workedPlain, TakenClaim}
 use Rattle.agreement.proofs.Left.{leaving}
 use Rattle.agreement.proofs.Demand2.{demand2}
@@ -82,6 +85,17 @@ taken-is n k g = determined .taken k _ _ [] _ g (demand2 .answer [] freshCounts 
 
 pub four : worked workedPlain .counts .entities ≡ 4
 four = ap (λ (c : Counts). c .entities) (sym (worked-holds .counts)) ∙ entities-are worked-holds
+
+five : worked workedPlain .counts .versions ≡ 5
+five = ap (λ (c : Counts). c .versions) (sym (worked-holds .counts)) ∙ versions-are worked-holds
+
+-- a trace of one of the four entities with buffers that are long enough is not refused
+pub not-refused : (x : ℕ) (work marks : List ℕ) → x < 4 → 5 ≤ length work → 4 ≤ length marks → numberOf (firstOf (traceRefusals workedPlain x work marks)) ≡ 0
+unfolding traceRefusals
+not-refused x work marks l w m =
+    let n = worked workedPlain .counts in
+    ap numberOf
+    (all-false-passed _ (lt-leb (n .entities) x (omega (arith, four)), (le-ltb (length work) (n .versions) (omega (arith, five)), (le-ltb (length marks) (n .entities) (omega (arith, four)), tt))))
 
 -- the same bytes for the four entities
 marks-are : (marks : List ℕ) {marks′ left : List ℕ} → SameMarks (worked workedPlain .counts .entities) marks marks′ → marks′ ≡ left → SameMarks 4 marks left

@@ -5,9 +5,10 @@ use mathlib.Core.Path.{_≡_}
 use mathlib.Core.Logic.{_⊎_, _↔_}
 use mathlib.Core.Bool.{true}
 use mathlib.Core.List.{List, [], _∷_, _++_}
-use lib.ListN.{getD}
+use lib.ListN.{length, getD}
+use lib.Dec.{leb, ltb}
 use Rattle.refusals.specs.declared.Refusal.the-variants.{Undeclared, BufferShort}
-use Rattle.refusals.specs.Refusals.{refusalNo}
+use Rattle.refusals.specs.Refusals.{Check, check, firstOf, numberOf}
 use Rattle.rows.specs.declared.Counts.{Counts}
 use Rattle.record.specs.declared.Event.{Event}
 use Rattle.record.specs.declared.Record.{Record}
@@ -39,19 +40,30 @@ pub record ForwardAgrees (rs : List Record) (u t : ℕ) (f : ForwardTrace) : Typ
   pub intake : IntakeTime u t (itemsOf rs) (f .answer .intake)
   pub never-less : (y : ℕ) → PathFrom (accepted (itemsOf rs)) t u y → (y < worked rs .counts .entities) × (getD (f .marks) y 0 ≡ 1)
 
--- "In such a list a trace is refused only with 5 or 14", and if it is not, it agrees
-pub record TraceAgrees (number : ℕ) (Claim : Type 0) : Type 0 where
-  pub refusal : (number ≡ 0) ⊎ ((number ≡ refusalNo Undeclared) ⊎ (number ≡ refusalNo BufferShort))
+-- "In such a list a trace is refused only with 5 or 14": if, by the plain list, the entity is not declared, or a buffer is shorter
+-- than its count
+unfoldable pub traceRefusals : List Record → ℕ → List ℕ → List ℕ → List Check
+traceRefusals rs x work marks =
+    check (leb (worked rs .counts .entities) x) Undeclared
+    ∷ check (ltb (length work) (worked rs .counts .versions)) BufferShort
+    ∷ check (ltb (length marks) (worked rs .counts .entities)) BufferShort
+    ∷ []
+
+-- a trace returns the number of the first that holds, and if none does, it agrees
+pub record TraceAgrees (refusals : List Check) (number : ℕ) (Claim : Type 0) : Type 0 where
+  pub refusal : number ≡ numberOf (firstOf refusals)
   pub agrees : number ≡ 0 → Claim
 
 -- so for whatever a trace lent these returns and leaves
 abbrev pub BackwardsAgree : List Record → Counts → Tables → ℕ → ℕ → List ℕ → List ℕ → Type 0
 BackwardsAgree rs c t v time work marks =
-    (b : BackwardTrace) → IsBackwardTrace c t v time work marks b → TraceAgrees (b .answer .refusal) (BackwardAgrees rs v time b)
+    (b : BackwardTrace) → IsBackwardTrace c t v time work marks b
+    → TraceAgrees (traceRefusals rs v work marks) (b .answer .refusal) (BackwardAgrees rs v time b)
 
 abbrev pub ForwardsAgree : List Record → Counts → Tables → ℕ → ℕ → List ℕ → List ℕ → Type 0
 ForwardsAgree rs c t u time work marks =
-    (f : ForwardTrace) → IsForwardTrace c t u time work marks f → TraceAgrees (f .answer .refusal) (ForwardAgrees rs u time f)
+    (f : ForwardTrace) → IsForwardTrace c t u time work marks f
+    → TraceAgrees (traceRefusals rs u work marks) (f .answer .refusal) (ForwardAgrees rs u time f)
 
 -- every event by which an entity gained an ancestor is a kept intake of it: by a dropped one none did
 abbrev pub GainsAreKept : List Item → Type 0

@@ -1,10 +1,10 @@
 -- Document 01, "Agreement": "These are shut out". The claims determine the answers (`Determined`), so a wrong one contradicts them.
 -- `Refuted` says it of each wrong answer that the document names, for the worked list of calls: no answer that is wrong in this way,
 -- whatever it is otherwise, is one of which the claim holds.
-use Prim.Native.Nat.{ℕ, _<_}
+use Prim.Native.Nat.{ℕ, _≤_, _<_}
 use mathlib.Core.Path.{_≡_}
 use mathlib.Core.List.{List, [], _∷_, _++_, List·Memᴰ}
-use lib.ListN.{getD, replicate}
+use lib.ListN.{length, getD}
 use Rattle.refusals.specs.declared.Refusal.the-variants.{Unsound}
 use Rattle.refusals.specs.Refusals.{refusalNo}
 use Rattle.rows.specs.declared.Counts.{Counts}
@@ -20,9 +20,8 @@ use Rattle.rules.specs.PlainList.{worked, itemsOf}
 use Rattle.rules.specs.Calls.{Call, batch, plainAfter}
 use Rattle.rules.specs.Worked as worked-trail
 use Rattle.closure.specs.Same.{SameRows}
-use Rattle.closure.specs.ByRelations.{IsBackwardTrace, IsForwardTrace}
 use Rattle.agreement.specs.Demand2.{Holds, GrownBy}
-use Rattle.agreement.specs.Demand3.{BackwardAgrees, ForwardAgrees, TraceAgrees, GainsAreKept, Agrees}
+use Rattle.agreement.specs.Demand3.{BackwardAgrees, ForwardAgrees, traceRefusals, TraceAgrees, GainsAreKept, Agrees}
 use Rattle.agreement.specs.RoundTrip.{TakenAgain}
 
 -- the same bytes for n entities
@@ -49,13 +48,13 @@ workedPlain = plainAfter (workedCalls 8)
 abbrev pub longerPlain : List Record
 longerPlain = plainAfter (batch (worked-trail.room 8) (worked-trail.file 1 ++ (2 ∷ 0 ∷ 1 ∷ 0 ∷ 3 ∷ 0 ∷ 0 ∷ 0 ∷ 8 ∷ 0 ∷ 0 ∷ 0 ∷ [])) ∷ [])
 
--- The claims, of any answer
+-- The claims, of any answer to a trace lent these buffers
 
-abbrev pub BackwardClaim : List Record → ℕ → ℕ → BackwardTrace → Type 0
-BackwardClaim rs v time b = TraceAgrees (b .answer .refusal) (BackwardAgrees rs v time b)
+abbrev pub BackwardClaim : List Record → ℕ → ℕ → List ℕ → List ℕ → BackwardTrace → Type 0
+BackwardClaim rs v time work marks b = TraceAgrees (traceRefusals rs v work marks) (b .answer .refusal) (BackwardAgrees rs v time b)
 
-abbrev pub ForwardClaim : List Record → ℕ → ℕ → ForwardTrace → Type 0
-ForwardClaim rs u time f = TraceAgrees (f .answer .refusal) (ForwardAgrees rs u time f)
+abbrev pub ForwardClaim : List Record → ℕ → ℕ → List ℕ → List ℕ → ForwardTrace → Type 0
+ForwardClaim rs u time work marks f = TraceAgrees (traceRefusals rs u work marks) (f .answer .refusal) (ForwardAgrees rs u time f)
 
 -- a batch, lent n edge rows, says that it took in k of the 11 records
 abbrev pub TakenClaim : ℕ → ℕ → Type 0
@@ -67,10 +66,10 @@ TakenAgainClaim b = TakenAgain (worked-trail.batch 8 .counts) (worked-trail.batc
 -- The claim holds of no wrong answer: of a trace that is not refused; of counts and tables
 
 abbrev pub NoBackward : List Record → ℕ → ℕ → (BackwardTrace → Type 0) → Type 0
-NoBackward rs v time Wrong = (b : BackwardTrace) → b .answer .refusal ≡ 0 → Wrong b → BackwardClaim rs v time b → ⊥
+NoBackward rs v time Wrong = (work marks : List ℕ) (b : BackwardTrace) → b .answer .refusal ≡ 0 → Wrong b → BackwardClaim rs v time work marks b → ⊥
 
 abbrev pub NoForward : List Record → ℕ → ℕ → (ForwardTrace → Type 0) → Type 0
-NoForward rs u time Wrong = (f : ForwardTrace) → f .answer .refusal ≡ 0 → Wrong f → ForwardClaim rs u time f → ⊥
+NoForward rs u time Wrong = (work marks : List ℕ) (f : ForwardTrace) → f .answer .refusal ≡ 0 → Wrong f → ForwardClaim rs u time work marks f → ⊥
 
 abbrev pub NoTables : (Counts → Tables → Type 0) → Type 0
 NoTables Wrong = (c : Counts) (t : Tables) → Wrong c t → Holds workedPlain c t → ⊥
@@ -84,10 +83,10 @@ pub record Refuted : Type 0 where
   pub backward-only-itself : NoBackward workedPlain 2 6 (λ b. OnlyMarked 2 (b .marks))
   pub forward-only-itself : NoForward workedPlain 3 0 (λ f. OnlyMarked 3 (f .marks))
   -- "or always the same marks": P2 against P4, P5 against P8
-  pub backward-same-marks : (b b′ : BackwardTrace) → b .answer .refusal ≡ 0 → b′ .answer .refusal ≡ 0 → SameMarks 4 (b .marks) (b′ .marks)
-      → BackwardClaim workedPlain 2 1 b → BackwardClaim workedPlain 2 6 b′ → ⊥
-  pub forward-same-marks : (f f′ : ForwardTrace) → f .answer .refusal ≡ 0 → f′ .answer .refusal ≡ 0 → SameMarks 4 (f .marks) (f′ .marks)
-      → ForwardClaim workedPlain 3 0 f → ForwardClaim workedPlain 0 4 f′ → ⊥
+  pub backward-same-marks : (work marks : List ℕ) (b b′ : BackwardTrace) → b .answer .refusal ≡ 0 → b′ .answer .refusal ≡ 0
+      → SameMarks 4 (b .marks) (b′ .marks) → BackwardClaim workedPlain 2 1 work marks b → BackwardClaim workedPlain 2 6 work marks b′ → ⊥
+  pub forward-same-marks : (work marks : List ℕ) (f f′ : ForwardTrace) → f .answer .refusal ≡ 0 → f′ .answer .refusal ≡ 0
+      → SameMarks 4 (f .marks) (f′ .marks) → ForwardClaim workedPlain 3 0 work marks f → ForwardClaim workedPlain 0 4 work marks f′ → ⊥
   -- "Taking an edge from an older version of u for a repeat: time 6 is dropped and 2 vanishes from P5."
   pub forward-report-missed : NoForward workedPlain 3 0 (λ f. getD (f .marks) 2 0 ≡ 0)
   -- "Widening a version that already gave something: the montage appears in P3."
@@ -113,18 +112,17 @@ pub record Refuted : Type 0 where
   -- "intakes picked freely": 0, or any but that of P6
   pub intake-zero : NoForward workedPlain 1 4 (λ f. f .answer .intake ≡ 0)
   pub intake-free : NoForward workedPlain 1 4 (λ f. (f .answer .intake ≡ 1 → ⊥))
-  -- "In such a list a trace is refused only with 5 or 14."
-  pub backward-refused : (b : BackwardTrace) → b .answer .refusal ≡ refusalNo Unsound → BackwardClaim workedPlain 2 6 b → ⊥
-  pub forward-refused : (f : ForwardTrace) → f .answer .refusal ≡ refusalNo Unsound → ForwardClaim workedPlain 3 0 f → ⊥
-  -- refused though the entity is declared and the buffers are long enough: "Each refusal is given when its condition is the first to
-  -- hold in this order, and never otherwise."
-  pub backward-always-refused : (b : BackwardTrace) → (b .answer .refusal ≡ 0 → ⊥)
-      → IsBackwardTrace (worked-trail.batch 8 .counts) (worked-trail.batch 8 .tables) 2 6 (replicate 6 9) (replicate 5 9) b → ⊥
-  pub forward-always-refused : (f : ForwardTrace) → (f .answer .refusal ≡ 0 → ⊥)
-      → IsForwardTrace (worked-trail.batch 8 .counts) (worked-trail.batch 8 .tables) 3 0 (replicate 6 9) (replicate 5 9) f → ⊥
+  -- "In such a list a trace is refused only with 5 or 14": not with 16, and not at all if the entity is declared and the buffers are
+  -- long enough
+  pub backward-refused : (work marks : List ℕ) (b : BackwardTrace) → b .answer .refusal ≡ refusalNo Unsound → BackwardClaim workedPlain 2 6 work marks b → ⊥
+  pub forward-refused : (work marks : List ℕ) (f : ForwardTrace) → f .answer .refusal ≡ refusalNo Unsound → ForwardClaim workedPlain 3 0 work marks f → ⊥
+  pub backward-always-refused : (work marks : List ℕ) (b : BackwardTrace) → 5 ≤ length work → 4 ≤ length marks → (b .answer .refusal ≡ 0 → ⊥)
+      → BackwardClaim workedPlain 2 6 work marks b → ⊥
+  pub forward-always-refused : (work marks : List ℕ) (f : ForwardTrace) → 5 ≤ length work → 4 ≤ length marks → (f .answer .refusal ≡ 0 → ⊥)
+      → ForwardClaim workedPlain 3 0 work marks f → ⊥
   -- "a trail that keeps no edge (demands 2 and 3)"; time 6 dropped
   pub no-edge : NoTables (λ c t. c .edges ≡ 0)
-  pub no-edge-traced : (c : Counts) (t : Tables) → c .entities ≡ 4 → c .edges ≡ 0 → Agrees workedPlain c t → ⊥
+  pub no-edge-traced : (c : Counts) (t : Tables) → c .edges ≡ 0 → Agrees workedPlain c t → ⊥
   pub time-6-dropped : NoTables (λ c t. c .edges ≡ 3)
   -- every version widened; a new version for every kept event
   pub widen-always : NoTables (λ c t. c .versions ≡ 4)

@@ -2,7 +2,6 @@
 use Prim.Native.Nat.{ℕ, _≤_}
 use native.Mathlib.Omega.{arith}
 use mathlib.Core.Path.{_≡_, refl, sym, _∙_}
-use mathlib.Core.Logic.{_⊎_, inl, inr}
 use mathlib.Core.Bool.{Bool, true, false, not, cond}
 use mathlib.Core.List.{List}
 use lib.ListN.{length}
@@ -11,7 +10,7 @@ use borrow.Author.Tests.{not-false, ltb-false}
 use Rattle.refusals.specs.declared.Checked.{Checked}
 use Rattle.refusals.specs.declared.Checked.the-variants.{Passed, Refused}
 use Rattle.refusals.specs.declared.Refusal.the-variants.{Unsound, Undeclared, BufferShort}
-use Rattle.refusals.specs.Refusals.{firstOf, refusalNo, numberOf}
+use Rattle.refusals.specs.Refusals.{firstOf, numberOf}
 use Rattle.refusals.proofs.Checks.{passed-all-false}
 use Rattle.rows.specs.declared.Counts.{Counts}
 use Rattle.rows.specs.Capacity.{versionCapacity, edgeCapacity}
@@ -42,20 +41,6 @@ module _ (c : Counts) (t : Tables) (x : ℕ) (work marks : List ℕ) where
       go true false true w q = absurd (omega arith)
       go true false false true q = absurd (omega arith)
       go true false false false q = refl
-
-  -- over sound tables it is refused with 5 or 14 alone
-  pub number-sound : isSound (capacityOf t) (trailOf c t) ≡ true
-      → (numberOf (firstOf (traceChecks c t x work marks)) ≡ 0)
-      ⊎ ((numberOf (firstOf (traceChecks c t x work marks)) ≡ refusalNo Undeclared) ⊎ (numberOf (firstOf (traceChecks c t x work marks)) ≡ refusalNo BufferShort))
-  unfolding traceChecks firstOf
-  number-sound s = rw s (go (leb (c .entities) x) (ltb (length work) (c .versions)) (ltb (length marks) (c .entities)))
-    where
-      go : (u v w : Bool) → (numberOf (firstChecked true u v w) ≡ 0)
-          ⊎ ((numberOf (firstChecked true u v w) ≡ refusalNo Undeclared) ⊎ (numberOf (firstChecked true u v w) ≡ refusalNo BufferShort))
-      go true v w = inr (inl refl)
-      go false true w = inr (inr refl)
-      go false false true = inr (inr refl)
-      go false false false = inl refl
 
 module _ (c : Counts) (t : Tables) (x : ℕ) (work marks : List ℕ) (p : firstOf (traceChecks c t x work marks) ≡ Passed) where
   passed-sound : isSound (capacityOf t) (trailOf c t) ≡ true
