@@ -18,7 +18,7 @@ use Rattle.rules.specs.declared.BatchAnswer.{BatchAnswer}
 use Rattle.rules.specs.PlainList.{worked}
 use Rattle.agreement.specs.Demand3.{traceRefusals}
 use Rattle.agreement.specs.Refuted.{workedPlain, TakenClaim, Refuted}
-use Rattle.agreement.proofs.WorkedAnswers.{rows, entities-are, versions-are, edges-are, accepted-are, last-is, stager-row, report-version, edge-at-6, taken-is, not-refused, backward-is, forward-is}
+use Rattle.agreement.proofs.WorkedAnswers.{rows, entities-are, versions-are, edges-are, accepted-are, last-is, stager-row, report-version, edge-at-6, taken-is, refusal-is, not-refused, backward-is, forward-is}
 use Rattle.agreement.proofs.NoEdge.{no-edge-traced}
 use Rattle.agreement.proofs.LongerPaths.{montage-back, study-forward, montage-forward}
 use Rattle.agreement.proofs.GainDropped.{time-6-kept}
@@ -78,6 +78,8 @@ refuted = record {
   first-record-taken = λ g. omega (arith, eleven 1 g);
   no-row-left = λ g. omega (arith, eleven 9 g);
   full-before-repeat = λ g. omega (arith, taken-is 4 10 g, ap (λ (a : BatchAnswer). a .taken) (rows .p10));
+  refused-for-nothing = λ a w g. w (refusal-is 8 a g ∙ ap (λ (r : BatchAnswer). r .refusal) (rows .p1-answer));
+  refused-for-another = λ a w g. w (refusal-is 3 a g ∙ ap (λ (r : BatchAnswer). r .refusal) (rows .p11));
   more-than-the-file = λ g. omega (arith, eleven 12 g);
   gain-dropped = λ hs q w g. let k = time-6-kept hs q g in w (k .0) (k .1) (k .2);
   version-each-event = λ c t e d v a. omega (arith, a .versions);

@@ -13,6 +13,7 @@ use Rattle.rows.specs.declared.EntityRow.{EntityRow}
 use Rattle.rows.specs.declared.VersionRow.{VersionRow}
 use Rattle.rows.specs.declared.EdgeRow.{EdgeRow}
 use Rattle.rows.specs.Rows.{entityRow, versionRow, edgeRow, entityAt, versionAt, edgeAt}
+use Rattle.rules.specs.declared.BatchAnswer.{BatchAnswer}
 use Rattle.rules.specs.declared.BackwardAnswer.{BackwardAnswer}
 use Rattle.rules.specs.declared.ForwardAnswer.{ForwardAnswer}
 use Rattle.rules.specs.Trail.{Tables, trailOf, counts, freshCounts, none}
@@ -26,7 +27,7 @@ use Rattle.closure.proofs.ByRelations.{traces-by-relations}
 use Rattle.agreement.specs.Left.{LeftBy}
 use Rattle.agreement.specs.Demand2.{Holds}
 use Rattle.agreement.specs.Demand3.{BackwardAgrees, ForwardAgrees, traceRefusals}
-use Rattle.agreement.specs.Refuted.{SameMarks, workedCalls, workedPlain, TakenClaim}
+use Rattle.agreement.specs.Refuted.{SameMarks, workedCalls, workedPlain, AnswerClaim, TakenClaim}
 use Rattle.agreement.proofs.Left.{leaving}
 use Rattle.agreement.proofs.Demand2.{demand2}
 use Rattle.agreement.proofs.Demand3.{demand3}
@@ -75,11 +76,15 @@ module _ {c : Counts} {t : Tables} (h : Holds workedPlain c t) where
   pub edge-at-6 : edgeAt (t .edges) 3 ≡ edgeRow 4 2 2 6
   edge-at-6 = same .1 .edge-rows 3 (omega (arith, edges-are)) ∙ ap (λ (l : List EdgeRow). getD l 3 (edgeRow 0 0 0 0)) (rows .p1-edges)
 
--- How many records a batch took in, lent n edge rows
+-- How many records a batch took in, lent n edge rows, and what it was refused for
 
 pub taken-is : (n k : ℕ) → TakenClaim n k → k ≡ batch n .answer .taken
 unfolding batch
 taken-is n k g = determined .taken k _ _ [] _ g (demand2 .answer [] freshCounts (room n) (leaving .fresh (room n)) (file 1) .taken)
+
+pub refusal-is : (n : ℕ) (a : BatchAnswer) → AnswerClaim n a → a .refusal ≡ batch n .answer .refusal
+unfolding batch
+refusal-is n a g = g .refusal ∙ sym (demand2 .answer [] freshCounts (room n) (leaving .fresh (room n)) (file 1) .refusal)
 
 -- Traces
 

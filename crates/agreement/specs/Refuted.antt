@@ -5,12 +5,13 @@ use Prim.Native.Nat.{ℕ, _≤_, _<_}
 use mathlib.Core.Path.{_≡_}
 use mathlib.Core.List.{List, [], _∷_, _++_, List·Memᴰ}
 use lib.ListN.{length, getD}
-use Rattle.refusals.specs.declared.Refusal.the-variants.{Unsound}
+use Rattle.refusals.specs.declared.Refusal.the-variants.{EdgesFull, Unsound}
 use Rattle.refusals.specs.Refusals.{refusalNo}
 use Rattle.rows.specs.declared.Counts.{Counts}
 use Rattle.rows.specs.Rows.{entityAt, versionAt, edgeAt}
 use Rattle.record.specs.declared.Event.{Event}
 use Rattle.record.specs.declared.Record.{Record}
+use Rattle.rules.specs.declared.BatchAnswer.{BatchAnswer}
 use Rattle.rules.specs.Trail.{Tables, trailOf}
 use Rattle.rules.specs.Batch.{Batched, contentsOf}
 use Rattle.rules.specs.Backward.{BackwardTrace}
@@ -20,7 +21,7 @@ use Rattle.rules.specs.PlainList.{worked, itemsOf}
 use Rattle.rules.specs.Calls.{Call, batch, plainAfter}
 use Rattle.rules.specs.Worked as worked-trail
 use Rattle.closure.specs.Same.{SameRows}
-use Rattle.agreement.specs.Demand2.{Holds, GrownBy}
+use Rattle.agreement.specs.Demand2.{Holds, GrownBy, Answered}
 use Rattle.agreement.specs.Demand3.{BackwardAgrees, ForwardAgrees, traceRefusals, TraceAgrees, GainsAreKept, Agrees}
 use Rattle.agreement.specs.RoundTrip.{TakenAgain}
 
@@ -56,7 +57,10 @@ BackwardClaim rs v time work marks b = TraceAgrees (traceRefusals rs v work mark
 abbrev pub ForwardClaim : List Record → ℕ → ℕ → List ℕ → List ℕ → ForwardTrace → Type 0
 ForwardClaim rs u time work marks f = TraceAgrees (traceRefusals rs u work marks) (f .answer .refusal) (ForwardAgrees rs u time f)
 
--- a batch, lent n edge rows, says that it took in k of the 11 records
+-- a batch, lent n edge rows, answers a; it says that it took in k of the 11 records
+abbrev pub AnswerClaim : ℕ → BatchAnswer → Type 0
+AnswerClaim n a = Answered [] (worked-trail.room n) (worked-trail.file 1) (plainAfter (workedCalls n)) a
+
 abbrev pub TakenClaim : ℕ → ℕ → Type 0
 TakenClaim n k = GrownBy k (contentsOf (worked-trail.file 1) .records) [] (plainAfter (workedCalls n))
 
@@ -142,6 +146,9 @@ pub record Refuted : Type 0 where
   -- "no row left" while a row is left: the event at 6 refused with eight edge rows; P10, the event at 7 with four
   pub no-row-left : TakenClaim 8 9 → ⊥
   pub full-before-repeat : TakenClaim 4 10 → ⊥
+  -- another number than 0 where all is taken in, and than 12 in P11
+  pub refused-for-nothing : (a : BatchAnswer) → (a .refusal ≡ 0 → ⊥) → AnswerClaim 8 a → ⊥
+  pub refused-for-another : (a : BatchAnswer) → (a .refusal ≡ refusalNo EdgesFull → ⊥) → AnswerClaim 3 a → ⊥
   -- more records than the file has
   pub more-than-the-file : TakenClaim 8 12 → ⊥
   -- The same events accepted and none kept at 6, as when no edge is kept: 2 gains 3 by it
