@@ -29,6 +29,7 @@ soundCases = record {
   from-exists = refl;
   to-exists = refl;
   two-entities = refl;
+  two-entities-from-older = refl;
   object-to-subject = refl;
   subject-to-object = refl;
   subject-to-subject = refl;

@@ -26,6 +26,7 @@ traceCases = record {
   backward-5 = refl;
   backward-6 = refl;
   backward-last = refl;
+  backward-declared-late = refl;
   forward-2 = refl;
   forward-3 = refl;
   forward-5 = refl;

@@ -6,7 +6,7 @@ use mathlib.Core.Bool.{true, false}
 use mathlib.Core.List.{[], _∷_, map}
 use lib.ListN.{replicate}
 use Rattle.refusals.specs.Refusals.{firstOf, numberOf}
-use Rattle.rows.specs.Rows.{entityNo}
+use Rattle.rows.specs.Rows.{entityRow, versionRow, edgeRow, entityNo, entityAt, versionAt, edgeAt}
 use Rattle.rows.specs.Capacity.{entityCapacity, versionCapacity, edgeCapacity}
 use Rattle.record.specs.declared.Kind.the-variants.{Write}
 use Rattle.record.specs.declared.Record.the-variants as records
@@ -38,6 +38,10 @@ pub record CapacityCases : Type 0 where
   pub whole-version-rows : map (λ n. versionCapacity (replicate n 0)) (0 ∷ 3 ∷ 4 ∷ 7 ∷ 8 ∷ []) ≡ 0 ∷ 0 ∷ 1 ∷ 1 ∷ 2 ∷ []
   pub whole-edge-rows : map (λ n. edgeCapacity (replicate n 0)) (0 ∷ 3 ∷ 4 ∷ 7 ∷ 8 ∷ []) ≡ 0 ∷ 0 ∷ 1 ∷ 1 ∷ 2 ∷ []
   pub each-table : capacityOf (tables (replicate 4 0) (replicate 12 0) (replicate 20 0)) ≡ record { entities = 2; versions = 3; edges = 5 }
+  -- past its end a table reads as 0
+  pub past-end-entity : entityAt [] 0 ≡ entityRow 0 0
+  pub past-end-version : versionAt [] 0 ≡ versionRow 0 0 0 0
+  pub past-end-edge : edgeAt [] 0 ≡ edgeRow 0 0 0 0
   -- tables of one number less than the most rows, of just those, and of one row more
   pub entities-below : entityCapacity (replicate 8191 0) ≡ 4095
   pub entities-most : entityCapacity (replicate 8192 0) ≡ 4096

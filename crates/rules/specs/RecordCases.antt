@@ -105,7 +105,7 @@ pub record RecordCases : Type 0 where
   pub unused-repeats : afterUnused (event 1 0 1 6) ≡ counts 2 2 1 1 6
   pub unused-leaves : afterUnused (event 2 1 0 6) ≡ counts 2 2 1 1 6
   -- an entity declared after events: its first version's number is not its own
-  pub after-repeats : workedThen (declare 4 1) ≡ counts 5 6 4 7 7
+  pub declared-after : batchOf (versionsUsed 5) (longer 2 4 4) (header ++ declare 4 1) .counts ≡ counts 5 6 5 7 9
   pub late-counts : grownThenDeclared .counts ≡ counts 5 7 5 5 5
   pub late-entities : map (entityAt (grownThenDeclared .tables .entities)) (0 ∷ 1 ∷ 2 ∷ 3 ∷ 4 ∷ []) ≡ entityRow 0 0 ∷ entityRow 1 4 ∷ entityRow 0 5 ∷ entityRow 0 3 ∷ entityRow 1 6 ∷ []
   pub late-version : versionAt (grownThenDeclared .tables .versions) 6 ≡ versionRow 4 0 0 none

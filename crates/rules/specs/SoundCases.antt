@@ -74,9 +74,9 @@ sixthIsFrom n = soundWith (versionsUsed n) (tables entityRows (sixVersions 0 0 0
 abbrev pub sixthIsTo : ℕ → Bool
 sixthIsTo n = soundWith (versionsUsed n) (tables entityRows (sixVersions 2 0 0 none) (putEdge edgeRows 0 (edgeRow 0 5 1 2)))
 
--- version 3 is the first of entity 1, and version 1, which names it as its previous, the second
-abbrev pub higherPrevious : Tables
-higherPrevious = tables entityRows (putVersion (putVersion versionRows 1 (versionRow 1 5 9 3)) 3 (versionRow 1 0 2 none)) edgeRows
+-- versions 1 and 5 are of entity 1 and start at 0; version 3 has one of them as its previous
+abbrev pub previousIs : ℕ → Bool
+previousIs p = soundWith (versionsUsed 6) (tables entityRows (putVersion (sixVersions 1 0 0 none) 3 (versionRow 1 5 9 p)) edgeRows)
 
 pub record SoundCases : Type 0 where
   -- "each count is within capacity"
@@ -103,13 +103,14 @@ pub record SoundCases : Type 0 where
   pub none-past-zero : map (λ s. versionIs 0 0 s 4 none) (0 ∷ 1 ∷ []) ≡ true ∷ false ∷ []
   pub previous-past-zero : map (λ s. versionIs 3 1 s 9 1) (0 ∷ 1 ∷ []) ≡ false ∷ true ∷ []
   -- "else a lower-numbered version of the same entity with a lower start"
-  pub previous-lower : soundWith (versionsUsed 5) higherPrevious ≡ false
+  pub previous-lower : map previousIs (1 ∷ 5 ∷ []) ≡ true ∷ false ∷ []
   pub previous-entity : map (versionIs 3 1 5 9) (0 ∷ 1 ∷ 2 ∷ 3 ∷ []) ≡ false ∷ true ∷ false ∷ false ∷ []
   pub previous-start : map (λ s. sixthIs 1 s 9 3) (4 ∷ 5 ∷ 6 ∷ []) ≡ false ∷ false ∷ true ∷ []
   -- "an edge joins existing versions of two different entities"
   pub from-exists : map sixthIsFrom (5 ∷ 6 ∷ []) ≡ false ∷ true ∷ []
   pub to-exists : map sixthIsTo (5 ∷ 6 ∷ []) ≡ false ∷ true ∷ []
   pub two-entities : map (λ o. edgeIs 3 3 o 4 8) (1 ∷ 2 ∷ 3 ∷ []) ≡ false ∷ true ∷ false ∷ []
+  pub two-entities-from-older : map (λ o. edgeIs 3 1 o 4 8) (1 ∷ 2 ∷ 3 ∷ []) ≡ false ∷ true ∷ false ∷ []
   -- "of the sorts its kind asks for, has kind 1 to 5"
   pub object-to-subject : map (λ n. edgeIs 4 0 3 n 9) (0 ∷ 1 ∷ 2 ∷ 3 ∷ 4 ∷ 5 ∷ 6 ∷ []) ≡ false ∷ true ∷ false ∷ true ∷ false ∷ true ∷ false ∷ []
   pub subject-to-object : map (λ n. edgeIs 4 3 0 n 9) (0 ∷ 1 ∷ 2 ∷ 3 ∷ 4 ∷ 5 ∷ 6 ∷ []) ≡ false ∷ false ∷ true ∷ false ∷ false ∷ false ∷ false ∷ []

@@ -12,7 +12,7 @@ use Rattle.rules.specs.Forward.{ForwardTrace, forwardOf}
 use Rattle.rules.specs.Order.{declare, event, used, full, unsound}
 use Rattle.rules.specs.SoundCases.{entityRows, edgeRows, sixVersions, versionsUsed}
 use Rattle.rules.specs.FileCases.{takenIn}
-use Rattle.rules.specs.RecordCases.{threeThen, forks, grown}
+use Rattle.rules.specs.RecordCases.{threeThen, forks, grown, grownThenDeclared}
 
 -- the traces of the trail of RecordCases, with buffers of w and m bytes: it has 7 versions and 4 entities
 abbrev pub backwardIn : ℕ → ℕ → ℕ → ℕ → BackwardTrace
@@ -108,7 +108,9 @@ pub record TraceCases : Type 0 where
   pub backward-5 : backwardIn 7 4 1 5 ≡ backwardTo 4 (1 ∷ 1 ∷ 1 ∷ 1 ∷ 1 ∷ 0 ∷ 0 ∷ []) (1 ∷ 1 ∷ 1 ∷ 1 ∷ [])
   pub backward-6 : backwardIn 7 4 1 6 ≡ backwardTo 4 (1 ∷ 1 ∷ 1 ∷ 1 ∷ 1 ∷ 0 ∷ 1 ∷ []) (1 ∷ 1 ∷ 1 ∷ 1 ∷ [])
   pub backward-last : backwardIn 7 4 1 4294967295 ≡ backwardTo 4 (1 ∷ 1 ∷ 1 ∷ 1 ∷ 1 ∷ 0 ∷ 1 ∷ []) (1 ∷ 1 ∷ 1 ∷ 1 ∷ [])
-  -- forward from it
+  -- from an entity whose version has a number above the entities'
+  pub backward-declared-late : backwardOf (grownThenDeclared .counts) (grownThenDeclared .tables) 4 6 (replicate 7 9) (replicate 5 9) ≡ backwardTo 1 (0 ∷ 0 ∷ 0 ∷ 0 ∷ 0 ∷ 0 ∷ 1 ∷ []) (0 ∷ 0 ∷ 0 ∷ 0 ∷ 1 ∷ [])
+  -- forward from subject 1
   pub forward-2 : forwardIn 7 4 1 2 ≡ forwardTo 2 1 (0 ∷ 1 ∷ 1 ∷ 0 ∷ 1 ∷ 1 ∷ 1 ∷ []) (0 ∷ 1 ∷ 1 ∷ 0 ∷ [])
   pub forward-3 : forwardIn 7 4 1 3 ≡ forwardTo 2 3 (0 ∷ 0 ∷ 0 ∷ 0 ∷ 1 ∷ 1 ∷ 1 ∷ []) (0 ∷ 1 ∷ 1 ∷ 0 ∷ [])
   pub forward-5 : forwardIn 7 4 1 5 ≡ forwardTo 2 4 (0 ∷ 0 ∷ 0 ∷ 0 ∷ 1 ∷ 1 ∷ 1 ∷ []) (0 ∷ 1 ∷ 1 ∷ 0 ∷ [])
