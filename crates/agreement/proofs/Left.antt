@@ -1,20 +1,20 @@
 -- What lists of calls leave: none leave a fresh trail, and each call goes on from what it is lent.
 use Prim.Native.Nat.{ℕ}
 use native.Mathlib.Omega.{arith}
-use mathlib.Core.Path.{_≡_, refl, sym, _∙_, ap, subst}
+use mathlib.Core.Path.{_≡_, refl, sym, _∙_, subst}
 use mathlib.Core.Bool.{true}
-use mathlib.Core.List.{List, [], _∷_}
+use mathlib.Core.List.{List, _∷_}
 use Rattle.rows.specs.declared.Counts.{Counts}
 use Rattle.rows.specs.Capacity.{entityCapacity, versionCapacity, edgeCapacity}
-use Rattle.rules.specs.Trail.{Tables, capacityOf, trailOf, freshCounts}
+use Rattle.rules.specs.Trail.{Tables, capacityOf, trailOf}
 use Rattle.rules.specs.Sound.{isSound}
 use Rattle.rules.specs.Batch.{batchOf}
-use Rattle.rules.specs.Calls.{Call, batch, backward, forward, held, heldAfter, Lent, AllLent, plainAfter}
+use Rattle.rules.specs.Calls.{Call, batch, backward, forward, held, heldAfter, Lent, AllLent}
 use Rattle.soundness.specs.Facts.{CountFacts}
 use Rattle.soundness.proofs.Facts.{sound-counts}
 use Rattle.soundness.proofs.BatchStep.{batch-sound}
 use Rattle.agreement.specs.Left.{LeftBy, Leaving}
-use Rattle.agreement.proofs.Matching.{Matches, matches, lent-sound}
+use Rattle.agreement.proofs.Matching.{matches, lent-sound}
 
 -- the counts and rows that stand in tables are lent with them
 pub own-lent : (c : Counts) (t : Tables) → CountFacts (capacityOf t) c → Lent (held c t) t

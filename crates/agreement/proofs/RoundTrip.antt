@@ -5,7 +5,7 @@ use mathlib.Core.Path.{_≡_, refl, sym, _∙_, ap, subst}
 use mathlib.Core.Logic.{_⊎_, inl, inr}
 use mathlib.Core.Bool.{Bool, true, false, cond}
 use mathlib.Core.List.{List, reverse}
-use lib.ListN.{length, take}
+use lib.ListN.{length}
 use lib.Dec.{ltb}
 use Rattle.refusals.specs.declared.Refusal.the-variants.{OutputShort}
 use Rattle.refusals.specs.declared.Checked.{Checked}
@@ -24,7 +24,6 @@ use Rattle.rules.specs.Batch.{ifRefused, contentsOf, batchOf}
 use Rattle.rules.specs.Marks.{overlaid}
 use Rattle.rules.specs.KeptLog.{KeptLog, logBytes, logChecks, keptLog, keptLogOf}
 use Rattle.rules.specs.Calls.{Call, Held, held, heldAfter, Lent, AllLent, plainAfter}
-use Rattle.soundness.specs.Facts.{CountFacts}
 use Rattle.soundness.proofs.Facts.{sound-counts}
 use Rattle.soundness.proofs.Tests.{sort-low}
 use Rattle.causality.specs.Statements.{Logged}

@@ -1,7 +1,6 @@
 -- What the promise of each public call carries beside its equation, of what the call was lent and what it left: the claims of
 -- demands 2 and 3 for every list of calls that leaves what it was lent. b, f and k are what the call returned and left.
 use Prim.Native.Nat.{ℕ}
-use mathlib.Core.Path.{_≡_}
 use mathlib.Core.List.{List, _∷_}
 use Rattle.rows.specs.declared.Counts.{Counts}
 use Rattle.rules.specs.Trail.{Tables}

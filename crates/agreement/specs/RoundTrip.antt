@@ -40,10 +40,10 @@ pub record SameTrail (T U : Trail) : Type 0 where
 
 -- the same traces and kept log, whatever the calls are lent besides: the numbers that they return, the mark buffer, the output
 pub record SameCalls (c : Counts) (t : Tables) (c′ : Counts) (t′ : Tables) : Type 0 where
-  pub backward : (v time : ℕ) (work marks : List ℕ) (b b′ : BackwardTrace) → IsBackwardTrace c t v time work marks b → IsBackwardTrace c′ t′ v time work marks b′
-      → (b′ .answer ≡ b .answer) × (b′ .marks ≡ b .marks)
-  pub forward : (u time : ℕ) (work marks : List ℕ) (f f′ : ForwardTrace) → IsForwardTrace c t u time work marks f → IsForwardTrace c′ t′ u time work marks f′
-      → (f′ .answer ≡ f .answer) × (f′ .marks ≡ f .marks)
+  pub backward : (v time : ℕ) (work marks : List ℕ) (b b′ : BackwardTrace) → IsBackwardTrace c t v time work marks b
+      → IsBackwardTrace c′ t′ v time work marks b′ → (b′ .answer ≡ b .answer) × (b′ .marks ≡ b .marks)
+  pub forward : (u time : ℕ) (work marks : List ℕ) (f f′ : ForwardTrace) → IsForwardTrace c t u time work marks f
+      → IsForwardTrace c′ t′ u time work marks f′ → (f′ .answer ≡ f .answer) × (f′ .marks ≡ f .marks)
   pub log : (out : List ℕ) → keptLogOf c′ t′ out ≡ keptLogOf c t out
 
 -- the batch takes in every record of the log, and the trail that it leaves is the same

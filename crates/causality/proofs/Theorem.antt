@@ -6,7 +6,7 @@ use mathlib.Core.List.{List, _∷_, _++_}
 use Rattle.record.specs.declared.Event.{Event}
 use Rattle.rules.specs.Trail.{Trail}
 use Rattle.rules.specs.Paths.{CausalPath, Gains}
-use Rattle.rules.specs.History.{Item, kept, dropped, accepted, NoIntake, LatestIntake, Reached, fromIntake, fromZero}
+use Rattle.rules.specs.History.{Item, dropped, accepted, NoIntake, LatestIntake, Reached, fromIntake, fromZero}
 use Rattle.rules.specs.Start.{StartVersion}
 use Rattle.rules.specs.Backward.{BackwardMarks}
 use Rattle.rules.specs.Forward.{ForwardMarks}

@@ -8,7 +8,7 @@ use Rattle.record.specs.declared.Event.{Event}
 use Rattle.record.specs.Layout.{kindNo}
 use Rattle.rules.specs.Trail.{Trail, ownerOf}
 use Rattle.rules.specs.Paths.{PathBy, PathFrom, Gains}
-use Rattle.rules.specs.History.{Item, kept, dropped, accepted, keptEvents, NoIntake, LatestIntake, Reached, IntakeTime}
+use Rattle.rules.specs.History.{Item, dropped, accepted, keptEvents, NoIntake, LatestIntake, Reached, IntakeTime}
 use Rattle.rules.specs.Start.{StartVersion, intakeOf}
 use Rattle.rules.specs.Backward.{BackwardMarks}
 use Rattle.rules.specs.Forward.{ForwardMarks}

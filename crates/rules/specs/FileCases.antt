@@ -62,8 +62,8 @@ numberedSubject = records.Declaration (record { sort = 1; entity = entityNo 1541
 abbrev pub numberedSubjectBytes : List ℕ
 numberedSubjectBytes = 0 ∷ 1 ∷ 5 ∷ 6 ∷ replicate 8 0
 
-abbrev pub greatest : Record
-greatest = records.Event (record { kind = Execve; source = entityNo 65535; target = entityNo 65535; time = 4294967295 })
+abbrev pub greatestEvent : Record
+greatestEvent = records.Event (record { kind = Execve; source = entityNo 65535; target = entityNo 65535; time = 4294967295 })
 
 abbrev pub greatestBytes : List ℕ
 greatestBytes = 5 ∷ 0 ∷ 255 ∷ 255 ∷ 255 ∷ 255 ∷ 0 ∷ 0 ∷ 255 ∷ 255 ∷ 255 ∷ 255 ∷ []
@@ -103,8 +103,8 @@ pub record FileCases : Type 0 where
   pub decoded-declaration : decodeOf numberedSubjectBytes ≡ Whole numberedSubject
   pub encoded-event : encodeOf numbered ≡ numberedBytes
   pub encoded-declaration : encodeOf numberedSubject ≡ numberedSubjectBytes
-  pub decoded-greatest : decodeOf greatestBytes ≡ Whole greatest
-  pub encoded-greatest : map encodeOf (greatest ∷ greatestObject ∷ []) ≡ greatestBytes ∷ (0 ∷ 0 ∷ 255 ∷ 255 ∷ replicate 8 0) ∷ []
+  pub decoded-greatest : decodeOf greatestBytes ≡ Whole greatestEvent
+  pub encoded-greatest : map encodeOf (greatestEvent ∷ greatestObject ∷ []) ≡ greatestBytes ∷ (0 ∷ 0 ∷ 255 ∷ 255 ∷ replicate 8 0) ∷ []
   pub encoded-kinds : map encodedKind (Read ∷ Write ∷ Load ∷ Fork ∷ Execve ∷ []) ≡ 1 ∷ 2 ∷ 3 ∷ 4 ∷ 5 ∷ []
   -- the greatest time, and none above it
   pub greatest-time : takenIn (declare 0 0 ++ (declare 1 1 ++ readAt 255 255 255 255)) .counts ≡ counts 2 2 1 1 4294967295

@@ -13,7 +13,7 @@ use Rattle.record.specs.declared.Record.the-variants as records
 use Rattle.rows.specs.Rows.{entityRow}
 use Rattle.rules.specs.declared.Decision.{Decision}
 use Rattle.rules.specs.declared.Decision.the-variants.{Repeat, Widen, Renew}
-use Rattle.rules.specs.Trail.{Capacity, Trail, latestOf}
+use Rattle.rules.specs.Trail.{Capacity, Trail}
 use Rattle.rules.specs.Decide.{decisionOf}
 use Rattle.rules.specs.Record.{declared, renewed, refusalOf, happened, changeOf}
 use Rattle.rules.specs.PlainList.{put, changed}
