@@ -25,7 +25,7 @@ use Rattle.closure.specs.ByRelations.{CountOf, HasMarkedVersion, Marking, Backw
 use Rattle.closure.proofs.Traces.{passed-entity}
 use Rattle.closure.proofs.Checked.{number-passed}
 use Rattle.causality.proofs.Theorem.{claims}
-use Rattle.agreement.specs.Demand3.{traceRefusals, MarksAre, BackwardAgrees, ForwardAgrees, BackwardsAgree, ForwardsAgree, Agrees, TracesAgree, Demand3}
+use Rattle.agreement.specs.Demand3.{traceRefusals, MarksAre, BackwardAgrees, ForwardAgrees, BackwardTracesAgree, ForwardTracesAgree, Agrees, TracesAgree, Demand3}
 use Rattle.agreement.proofs.Plain.{Fine, taken-fine}
 use Rattle.agreement.proofs.Matching.{Matches, matches, lent-sound}
 use Rattle.agreement.proofs.Held.{marked-some, Known, known}
@@ -83,13 +83,13 @@ module _ (c : Counts) (t : Tables) (rs : List Record) (k : Known (trailOf c t) (
     passed : {n : ℕ} → n ≡ numberOf (firstOf (traceChecks c t x work marks)) → n ≡ 0 → x < c .entities
     passed p q = passed-entity c t x work marks (number-passed c t x work marks (sym p ∙ q))
 
-    backward-answer : BackwardsAgree rs c t x time work marks
+    backward-answer : BackwardTracesAgree rs c t x time work marks
     backward-answer b r = record {
       refusal = rightly (r .refusal);
       agrees = λ q. backward-agrees x time work marks (passed (r .refusal) q) (r .traced q);
     }
 
-    forward-answer : ForwardsAgree rs c t x time work marks
+    forward-answer : ForwardTracesAgree rs c t x time work marks
     forward-answer f r = record {
       refusal = rightly (r .refusal);
       agrees = λ q. forward-agrees x time work marks (passed (r .refusal) q) (r .traced q);

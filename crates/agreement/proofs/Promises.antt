@@ -46,5 +46,5 @@ module _ (c : Counts) (t : Tables) where
           after = λ cs l. record { left = leaving .forward cs c t l x time work marks; agrees = demand3 cs c t l .1 .forward x time work marks _ r };
         })
 
-  pub log-promise : (out : List ℕ) (k : KeptLog) → k ≡ keptLogOf c t out → LogPromise c t k
-  log-promise out k q = subst (LogPromise c t) (sym q) (λ cs l. round-trip cs c t l out)
+  pub log-promise : (out : List ℕ) (k : KeptLog) → k ≡ keptLogOf c t out → LogPromise c t out k
+  log-promise out k q = subst (LogPromise c t out) (sym q) (λ cs l. round-trip cs c t l out)

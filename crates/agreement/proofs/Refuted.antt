@@ -18,7 +18,7 @@ use Rattle.rules.specs.declared.BatchAnswer.{BatchAnswer}
 use Rattle.rules.specs.PlainList.{worked}
 use Rattle.agreement.specs.Demand3.{traceRefusals}
 use Rattle.agreement.specs.Refuted.{workedPlain, TakenClaim, Refuted}
-use Rattle.agreement.proofs.WorkedAnswers.{rows, entities-are, versions-are, edges-are, accepted-are, last-is, stager-row, report-version, edge-at-6, taken-is, refusal-is, not-refused, backward-is, forward-is}
+use Rattle.agreement.proofs.WorkedAnswers.{rows, entities-are, versions-are, edges-are, accepted-are, last-is, stager-row, report-version, edge-at-6, taken-is, refusal-is, not-refused, log-not-refused, backward-is, forward-is}
 use Rattle.agreement.proofs.NoEdge.{no-edge-traced}
 use Rattle.agreement.proofs.LongerPaths.{montage-back, study-forward, montage-forward}
 use Rattle.agreement.proofs.GainDropped.{time-6-kept}
@@ -83,6 +83,7 @@ refuted = record {
   more-than-the-file = λ g. omega (arith, eleven 12 g);
   gain-dropped = λ hs q w g. let k = time-6-kept hs q g in w (k .0) (k .1) (k .2);
   version-each-event = λ c t e d v a. omega (arith, a .versions);
+  log-always-refused = λ c t out k l w a. w (a .refusal ∙ log-not-refused out l);
   log-of-no-event = λ b w a. omega (arith, a .same .edges, ap (λ (z : Counts). z .edges) (rows .p1-counts));
   log-refused = λ b w a. w (ap (λ (z : BatchAnswer). z .refusal) (a .answer));
 }

@@ -1,8 +1,7 @@
 -- Demand 2's round trip: the kept log, taken into a fresh trail with as many rows, yields the same entities, kept events and traces.
-use Prim.Native.Nat.{ℕ, _+_, _<_}
+use Prim.Native.Nat.{ℕ, _+_, _*_, _<_}
 use native.Mathlib.Omega.{arith}
 use mathlib.Core.Path.{_≡_, refl, sym, _∙_, ap, subst}
-use mathlib.Core.Logic.{_⊎_, inl, inr}
 use mathlib.Core.Bool.{Bool, true, false, cond}
 use mathlib.Core.List.{List, reverse}
 use lib.ListN.{length}
@@ -10,11 +9,12 @@ use lib.Dec.{ltb}
 use Rattle.refusals.specs.declared.Refusal.the-variants.{OutputShort}
 use Rattle.refusals.specs.declared.Checked.{Checked}
 use Rattle.refusals.specs.declared.Checked.the-variants.{Passed, Refused}
-use Rattle.refusals.specs.Refusals.{firstOf, refusalNo, numberOf}
+use Rattle.refusals.specs.Refusals.{firstOf, numberOf}
 use Rattle.rows.specs.declared.Counts.{Counts}
 use Rattle.rows.specs.declared.EntityRow.{EntityRow}
 use Rattle.record.specs.declared.Event.{Event}
 use Rattle.record.specs.declared.Record.{Record}
+use Rattle.record.specs.Layout.{headerLength, recordLength}
 use Rattle.record.specs.Header.{headerChecks}
 use Rattle.rules.specs.Trail.{Tables, capacityOf, Trail, trailOf, freshCounts}
 use Rattle.rules.specs.Sound.{isSound}
@@ -28,9 +28,9 @@ use Rattle.soundness.proofs.Facts.{sound-counts}
 use Rattle.soundness.proofs.Tests.{sort-low}
 use Rattle.causality.specs.Statements.{Logged}
 use Rattle.kept_log.specs.LogRecords.{logRecords, wholly}
-use Rattle.kept_log.proofs.LogRecords.{length-logRecords}
+use Rattle.kept_log.proofs.LogRecords.{length-logRecords, length-logBytes}
 use Rattle.kept_log.proofs.ReadBack.{log-taken-header, log-taken-contents}
-use Rattle.agreement.specs.RoundTrip.{EnoughRows, TakenAgain, LogAgrees, RoundTrip}
+use Rattle.agreement.specs.RoundTrip.{EnoughRows, TakenAgain, logRefusals, LogAgrees, RoundTrip}
 use Rattle.agreement.proofs.Matching.{Matches, matches, lent-alike, lent-rows, lent-sound, Ready, capacity-within}
 use Rattle.agreement.proofs.Held.{Known, known}
 use Rattle.agreement.proofs.Left.{own-lent, left-by}
@@ -53,13 +53,17 @@ module _ (c : Counts) (t : Tables) (out : List ℕ) (s : isSound (capacityOf t) 
       ifRefused {A = KeptLog} (short b) (keptLog (record { refusal = numberOf (short b); length = 0 }) out)
       (keptLog (record { refusal = 0; length = length (logBytes (trailOf c t)) }) (overlaid (logBytes (trailOf c t)) out))
 
-  log-refusal : (keptLogOf c t out .answer .refusal ≡ 0) ⊎ (keptLogOf c t out .answer .refusal ≡ refusalNo OutputShort)
-  unfolding keptLogOf logChecks firstOf
-  log-refusal = rw s (go (ltb (length out) (length (logBytes (trailOf c t)))))
-    where
-      go : (b : Bool) → (answered b .answer .refusal ≡ 0) ⊎ (answered b .answer .refusal ≡ refusalNo OutputShort)
-      go true = inr refl
-      go false = inl refl
+  answered-number : (b : Bool) → answered b .answer .refusal ≡ numberOf (short b)
+  answered-number true = refl
+  answered-number false = refl
+
+  -- the log is as long as the plain list says
+  log-refusal : (rs : List Record) → c ≡ worked rs .counts → keptLogOf c t out .answer .refusal ≡ numberOf (firstOf (logRefusals rs out))
+  unfolding keptLogOf logChecks logRefusals firstOf
+  log-refusal rs same =
+      let e : length (logBytes (trailOf c t)) ≡ headerLength + recordLength * (worked rs .counts .entities + worked rs .counts .edges)
+      = length-logBytes (trailOf c t) ∙ (λ j. headerLength + recordLength * (same j .entities + same j .edges)) in
+      rw s (answered-number (ltb (length out) (length (logBytes (trailOf c t)))) ∙ ap (λ (n : ℕ). numberOf (short (ltb (length out) n))) e)
 
   log-passed : keptLogOf c t out .answer .refusal ≡ 0 → firstOf (logChecks c t out) ≡ Passed
   unfolding keptLogOf logChecks firstOf
@@ -145,13 +149,13 @@ module _ (h : Held) (rs : List Record) (m : Matches h rs) (t : Tables) (l : Lent
         }
 
 held-trip : (cs : List Call) → AllLent cs → (t : Tables) → Lent (heldAfter cs) t → (out : List ℕ)
-    → LogAgrees cs (heldAfter cs .counts) t (keptLogOf (heldAfter cs .counts) t out)
+    → LogAgrees cs (heldAfter cs .counts) t out (keptLogOf (heldAfter cs .counts) t out)
 held-trip cs a t l out =
     let m = matches cs a in
     let c = heldAfter cs .counts in
     let s = lent-sound _ _ m t l in
     record {
-      refusal = log-refusal c t out s;
+      refusal = log-refusal c t out s (plainAfter cs) (sym (m .alike .counts));
       again = λ q b lent room.
           let p = log-passed c t out s q in
           let small : c .last < 4294967296 = omega (arith, last-small cs b, ap (λ (k : Counts). k .last) (m .alike .counts)) in
@@ -159,4 +163,4 @@ held-trip cs a t l out =
     }
 
 pub round-trip : RoundTrip
-round-trip cs c t l out = left-by (λ k. LogAgrees cs k t (keptLogOf k t out)) l (held-trip cs (l .lent) t (l .rows) out)
+round-trip cs c t l out = left-by (λ k. LogAgrees cs k t out (keptLogOf k t out)) l (held-trip cs (l .lent) t (l .rows) out)

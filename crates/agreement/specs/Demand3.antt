@@ -29,16 +29,16 @@ pub record MarksAre (n : ℕ) (M : ℕ → Type 0) (marks : List ℕ) (count : �
   pub marked : (x : ℕ) → x < n → (getD marks x 0 ≡ 1) ↔ M x
   pub counted : CountOf (λ x. (x < n) × M x) count
 
--- backward from v at t, over the full list: exactly the entities with a causal path in by t
+-- backward from v at a time, over the full list: exactly the entities with a causal path in by then
 abbrev pub BackwardAgrees : List Record → ℕ → ℕ → BackwardTrace → Type 0
-BackwardAgrees rs v t b = MarksAre (worked rs .counts .entities) (λ x. PathBy (accepted (itemsOf rs)) t x v) (b .marks) (b .answer .count)
+BackwardAgrees rs v time b = MarksAre (worked rs .counts .entities) (λ x. PathBy (accepted (itemsOf rs)) time x v) (b .marks) (b .answer .count)
 
--- forward from u at t: exactly those reached from the latest kept intake at or before t, or from time 0 if there is none;
--- the intake given is its time, 0 if there is none; never less than the full log's answer at t
-pub record ForwardAgrees (rs : List Record) (u t : ℕ) (f : ForwardTrace) : Type 0 where
-  pub marks : MarksAre (worked rs .counts .entities) (Reached u t (itemsOf rs)) (f .marks) (f .answer .count)
-  pub intake : IntakeTime u t (itemsOf rs) (f .answer .intake)
-  pub never-less : (y : ℕ) → PathFrom (accepted (itemsOf rs)) t u y → (y < worked rs .counts .entities) × (getD (f .marks) y 0 ≡ 1)
+-- forward from u at a time: exactly those reached from the latest kept intake at or before it, or from time 0 if there is none;
+-- the intake given is that one's time, 0 if there is none; never less than the full log's answer at the time
+pub record ForwardAgrees (rs : List Record) (u time : ℕ) (f : ForwardTrace) : Type 0 where
+  pub marks : MarksAre (worked rs .counts .entities) (Reached u time (itemsOf rs)) (f .marks) (f .answer .count)
+  pub intake : IntakeTime u time (itemsOf rs) (f .answer .intake)
+  pub never-less : (y : ℕ) → PathFrom (accepted (itemsOf rs)) time u y → (y < worked rs .counts .entities) × (getD (f .marks) y 0 ≡ 1)
 
 -- "In such a list a trace is refused only with 5 or 14": if, by the plain list, the entity is not declared, or a buffer is shorter
 -- than its count
@@ -55,13 +55,13 @@ pub record TraceAgrees (refusals : List Check) (number : ℕ) (Claim : Type 0) :
   pub agrees : number ≡ 0 → Claim
 
 -- so for whatever a trace lent these returns and leaves
-abbrev pub BackwardsAgree : List Record → Counts → Tables → ℕ → ℕ → List ℕ → List ℕ → Type 0
-BackwardsAgree rs c t v time work marks =
+abbrev pub BackwardTracesAgree : List Record → Counts → Tables → ℕ → ℕ → List ℕ → List ℕ → Type 0
+BackwardTracesAgree rs c t v time work marks =
     (b : BackwardTrace) → IsBackwardTrace c t v time work marks b
     → TraceAgrees (traceRefusals rs v work marks) (b .answer .refusal) (BackwardAgrees rs v time b)
 
-abbrev pub ForwardsAgree : List Record → Counts → Tables → ℕ → ℕ → List ℕ → List ℕ → Type 0
-ForwardsAgree rs c t u time work marks =
+abbrev pub ForwardTracesAgree : List Record → Counts → Tables → ℕ → ℕ → List ℕ → List ℕ → Type 0
+ForwardTracesAgree rs c t u time work marks =
     (f : ForwardTrace) → IsForwardTrace c t u time work marks f
     → TraceAgrees (traceRefusals rs u work marks) (f .answer .refusal) (ForwardAgrees rs u time f)
 
@@ -72,8 +72,8 @@ GainsAreKept hs = (later earlier : List Item) (e : Event) → hs ≡ later ++ (d
 -- counts c and tables t agree with the plain list rs: so do traces with any entity, time and buffers
 pub record Agrees (rs : List Record) (c : Counts) (t : Tables) : Type 0 where
   pub sound : isSound (capacityOf t) (trailOf c t) ≡ true
-  pub backward : (v time : ℕ) (work marks : List ℕ) → BackwardsAgree rs c t v time work marks
-  pub forward : (u time : ℕ) (work marks : List ℕ) → ForwardsAgree rs c t u time work marks
+  pub backward : (v time : ℕ) (work marks : List ℕ) → BackwardTracesAgree rs c t v time work marks
+  pub forward : (u time : ℕ) (work marks : List ℕ) → ForwardTracesAgree rs c t u time work marks
   pub gains : GainsAreKept (itemsOf rs)
   -- "Over a trail grown from fresh, versions ≤ entities + edges."
   pub versions : c .versions ≤ c .entities + c .edges
@@ -82,8 +82,8 @@ pub record Agrees (rs : List Record) (c : Counts) (t : Tables) : Type 0 where
 abbrev pub TracesAgree : List Call → Type 0
 TracesAgree [] = Unit {0}
 TracesAgree (batch t file ∷ cs) = TracesAgree cs
-TracesAgree (backward t v time work marks ∷ cs) = BackwardsAgree (plainAfter cs) (heldAfter cs .counts) t v time work marks × TracesAgree cs
-TracesAgree (forward t u time work marks ∷ cs) = ForwardsAgree (plainAfter cs) (heldAfter cs .counts) t u time work marks × TracesAgree cs
+TracesAgree (backward t v time work marks ∷ cs) = BackwardTracesAgree (plainAfter cs) (heldAfter cs .counts) t v time work marks × TracesAgree cs
+TracesAgree (forward t u time work marks ∷ cs) = ForwardTracesAgree (plainAfter cs) (heldAfter cs .counts) t u time work marks × TracesAgree cs
 
 -- "All this is a single claim about the list and not one for each call."
 abbrev pub Demand3 : Type 0

@@ -13,7 +13,7 @@ pub record LeftBy (cs : List Call) (c : Counts) (t : Tables) : Type 0 where
   pub counts : c ≡ heldAfter cs .counts
   pub rows : Lent (heldAfter cs) t
 
--- There always are such calls: none at all leave a fresh trail, and each call goes on from what it is lent
+-- For what grows from a fresh trail there are such calls: none at all leave the fresh one, and each call goes on from what it is lent
 pub record Leaving : Type 0 where
   -- "All five zero is a fresh trail, whatever the tables hold."
   pub fresh : (t : Tables) → LeftBy [] freshCounts t

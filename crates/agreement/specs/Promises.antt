@@ -43,5 +43,5 @@ pub record ForwardPromise (c : Counts) (t : Tables) (u time : ℕ) (work marks :
       (TraceAgrees (traceRefusals (plainAfter cs) u work marks) (f .answer .refusal) (ForwardAgrees (plainAfter cs) u time f))
 
 -- the log that was written is taken in again
-abbrev pub LogPromise : Counts → Tables → KeptLog → Type 0
-LogPromise c t k = (cs : List Call) → LeftBy cs c t → LogAgrees cs c t k
+abbrev pub LogPromise : Counts → Tables → List ℕ → KeptLog → Type 0
+LogPromise c t out k = (cs : List Call) → LeftBy cs c t → LogAgrees cs c t out k

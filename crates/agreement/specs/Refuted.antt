@@ -1,6 +1,7 @@
--- Document 01, "Agreement": "These are shut out". The claims determine the answers (`Determined`), so a wrong one contradicts them.
--- `Refuted` says it of each wrong answer that the document names, for the worked list of calls: no answer that is wrong in this way,
--- whatever it is otherwise, is one of which the claim holds.
+-- Document 01, "Agreement": "These are shut out". The claims determine counts, rows in use, marks, count, intake and the numbers that the
+-- calls return (`Determined`, and equations), so a wrong one contradicts them. `Refuted` says it of each wrong answer that the document
+-- names, for the worked list of calls or that list with one event more: no answer that is wrong in this way, whatever it is otherwise,
+-- is one of which the claim holds.
 use Prim.Native.Nat.{ℕ, _≤_, _<_}
 use mathlib.Core.Path.{_≡_}
 use mathlib.Core.List.{List, [], _∷_, _++_, List·Memᴰ}
@@ -16,6 +17,7 @@ use Rattle.rules.specs.Trail.{Tables, trailOf}
 use Rattle.rules.specs.Batch.{Batched, contentsOf}
 use Rattle.rules.specs.Backward.{BackwardTrace}
 use Rattle.rules.specs.Forward.{ForwardTrace}
+use Rattle.rules.specs.KeptLog.{KeptLog}
 use Rattle.rules.specs.History.{Item, accepted, keptEvents}
 use Rattle.rules.specs.PlainList.{worked, itemsOf}
 use Rattle.rules.specs.Calls.{Call, batch, plainAfter}
@@ -23,7 +25,7 @@ use Rattle.rules.specs.Worked as worked-trail
 use Rattle.closure.specs.Same.{SameRows}
 use Rattle.agreement.specs.Demand2.{Holds, GrownBy, Answered}
 use Rattle.agreement.specs.Demand3.{BackwardAgrees, ForwardAgrees, traceRefusals, TraceAgrees, GainsAreKept, Agrees}
-use Rattle.agreement.specs.RoundTrip.{TakenAgain}
+use Rattle.agreement.specs.RoundTrip.{TakenAgain, LogAgrees}
 
 -- the same bytes for n entities
 abbrev pub SameMarks : ℕ → List ℕ → List ℕ → Type 0
@@ -78,7 +80,7 @@ NoForward rs u time Wrong = (work marks : List ℕ) (f : ForwardTrace) → f .an
 abbrev pub NoTables : (Counts → Tables → Type 0) → Type 0
 NoTables Wrong = (c : Counts) (t : Tables) → Wrong c t → Holds workedPlain c t → ⊥
 
--- of the four entities, x alone is marked
+-- of the four entities, none but x is marked
 abbrev pub OnlyMarked : ℕ → List ℕ → Type 0
 OnlyMarked x marks = (y : ℕ) → y < 4 → getD marks y 0 ≡ 1 → y ≡ x
 
@@ -156,6 +158,9 @@ pub record Refuted : Type 0 where
       → GainsAreKept hs → ⊥
   -- a version for each accepted event, besides the entities'
   pub version-each-event : (c : Counts) (t : Tables) → c .entities ≡ 4 → c .edges ≡ 4 → c .versions ≡ 11 → Agrees workedPlain c t → ⊥
-  -- the kept log without its events, or not taken in whole
+  -- the writer refused though the output has the 104 bytes of the log
+  pub log-always-refused : (c : Counts) (t : Tables) (out : List ℕ) (k : KeptLog) → 104 ≤ length out → (k .answer .refusal ≡ 0 → ⊥)
+      → LogAgrees (workedCalls 8) c t out k → ⊥
+  -- the kept log without its events, or refused
   pub log-of-no-event : (b : Batched) → b .counts .edges ≡ 0 → TakenAgainClaim b → ⊥
   pub log-refused : (b : Batched) → (b .answer .refusal ≡ 0 → ⊥) → TakenAgainClaim b → ⊥

@@ -1,20 +1,22 @@
 -- Demand 2's round trip: the kept log, taken into a fresh trail with as many rows, yields the same entities, kept events and
 -- traces. Document 01: "Version numbers may differ after it is taken in again; work buffers are not compared then."
-use Prim.Native.Nat.{ℕ, _+_, _≤_, _<_}
+use Prim.Native.Nat.{ℕ, _+_, _*_, _≤_, _<_}
 use mathlib.Core.Path.{_≡_}
-use mathlib.Core.Logic.{_⊎_}
 use mathlib.Core.List.{List, [], _∷_}
-use lib.ListN.{take}
+use lib.ListN.{length, take}
+use lib.Dec.{ltb}
 use Rattle.refusals.specs.declared.Refusal.the-variants.{OutputShort}
-use Rattle.refusals.specs.Refusals.{refusalNo}
+use Rattle.refusals.specs.Refusals.{Check, check, firstOf, numberOf}
 use Rattle.rows.specs.declared.Counts.{Counts}
-use Rattle.record.specs.Layout.{Bytes}
+use Rattle.record.specs.declared.Record.{Record}
+use Rattle.record.specs.Layout.{Bytes, headerLength, recordLength}
 use Rattle.rules.specs.Trail.{Tables, Capacity, capacityOf, Trail, trailOf, freshCounts}
 use Rattle.rules.specs.Batch.{Batched, batchOf}
 use Rattle.rules.specs.Backward.{BackwardTrace}
 use Rattle.rules.specs.Forward.{ForwardTrace}
 use Rattle.rules.specs.KeptLog.{eventRecord, KeptLog, keptLogOf}
-use Rattle.rules.specs.Calls.{Call, batch, backward, forward}
+use Rattle.rules.specs.PlainList.{worked}
+use Rattle.rules.specs.Calls.{Call, batch, backward, forward, plainAfter}
 use Rattle.closure.specs.ByRelations.{IsBackwardTrace, IsForwardTrace}
 use Rattle.agreement.specs.Left.{LeftBy}
 
@@ -56,12 +58,16 @@ pub record TakenAgain (c : Counts) (t : Tables) (b : Batched) : Type 0 where
 abbrev pub writtenLog : KeptLog → List ℕ
 writtenLog k = take (k .answer .length) (k .out)
 
--- What a writer returns and leaves after the calls cs: it is refused only with 15; and if it is not, and the files were of bytes,
--- it wrote a log that a fresh trail takes in again, in tables that hold anything
-pub record LogAgrees (cs : List Call) (c : Counts) (t : Tables) (k : KeptLog) : Type 0 where
-  pub refusal : (k .answer .refusal ≡ 0) ⊎ (k .answer .refusal ≡ refusalNo OutputShort)
+-- a writer is refused only with 15: if, by the plain list, the output is shorter than the header, the declarations and the kept events
+unfoldable pub logRefusals : List Record → List ℕ → List Check
+logRefusals rs out = check (ltb (length out) (headerLength + recordLength * (worked rs .counts .entities + worked rs .counts .edges))) OutputShort ∷ []
+
+-- What a writer lent out returns and leaves after the calls cs: if it is not refused, and the files were of bytes, it wrote a log that
+-- a fresh trail takes in again, in tables that hold anything
+pub record LogAgrees (cs : List Call) (c : Counts) (t : Tables) (out : List ℕ) (k : KeptLog) : Type 0 where
+  pub refusal : k .answer .refusal ≡ numberOf (firstOf (logRefusals (plainAfter cs) out))
   pub again : k .answer .refusal ≡ 0 → AllBytes cs → (lent : Tables) → EnoughRows (capacityOf lent) c → TakenAgain c t (batchOf freshCounts lent (writtenLog k))
 
 -- after any list of calls, for a writer with any output
 abbrev pub RoundTrip : Type 0
-RoundTrip = (cs : List Call) (c : Counts) (t : Tables) → LeftBy cs c t → (out : List ℕ) → LogAgrees cs c t (keptLogOf c t out)
+RoundTrip = (cs : List Call) (c : Counts) (t : Tables) → LeftBy cs c t → (out : List ℕ) → LogAgrees cs c t out (keptLogOf c t out)

@@ -34,7 +34,8 @@ pub extern "C" fn slt_batch(
     b.answer
 }
 
-// Marks what the entity came from by the time.
+// Marks what the start version of the entity at the time comes from. In a trail grown from a fresh one: what has a causal path to
+// the entity by the time.
 #[no_mangle]
 pub extern "C" fn slt_backward(
     counts: Counts,
@@ -55,7 +56,8 @@ pub extern "C" fn slt_backward(
     trace::backward(counts, entities, versions, edges, entity, time, work, marks)
 }
 
-// Marks what the entity reached from the time on, and gives the intake.
+// Marks what the start version of the entity at the time leads to, and gives the intake. In a trail grown from a fresh one: what
+// the entity reached by events after its latest kept intake at or before the time, by any event if there is none.
 #[no_mangle]
 pub extern "C" fn slt_forward(
     counts: Counts,
@@ -87,7 +89,8 @@ pub extern "C" fn slt_kept_log(
 ) -> LogAnswer
     ensures { λ r. ⌜ keptLog r (now (out .exit))
         ≡ keptLogOf counts (tables (now (entities .entry)) (now (versions .entry)) (now (edges .entry))) (now (out .entry)) ⌝ }
-    ensures { λ r. ⌜ LogPromise counts (tables (now (entities .entry)) (now (versions .entry)) (now (edges .entry))) (keptLog r (now (out .exit))) ⌝ }
+    ensures { λ r. ⌜ LogPromise counts (tables (now (entities .entry)) (now (versions .entry)) (now (edges .entry))) (now (out .entry))
+        (keptLog r (now (out .exit))) ⌝ }
 {
     kept_log::write_log(counts, entities, versions, edges, out)
 }
