@@ -1,6 +1,7 @@
 /*
- * Each call on a thread that has just the stack which the header states for it: a file that fills all tables is taken in, the
- * full tables are traced both ways and written out as the kept log. A call that needs more stack ends in a fault.
+ * Each call on a thread that has just the stack which the header states for it: the example runs whole on one with that of
+ * slt_batch; then a file that fills all tables is taken in, the full tables are traced both ways and written out as the kept
+ * log. A call that needs more stack ends in a fault. tools/c-test links the example with its main named `example`.
  */
 #define _DEFAULT_SOURCE
 #include <pthread.h>
@@ -66,6 +67,14 @@ static void make_file(void)
     }
 }
 
+int example(void);
+
+static void *run_example(void *unused)
+{
+    wrong |= example();
+    return unused;
+}
+
 static void *take_in(void *unused)
 {
     batch_answer = slt_batch(&counts, TABLES, file, LENGTH(file));
@@ -106,6 +115,7 @@ int main(void)
 {
     slt_counts full = { SLT_MOST_ENTITIES, SLT_MOST_VERSIONS, SLT_MOST_EDGES, SLT_MOST_EDGES, SLT_MOST_EDGES };
     make_file();
+    on_stack_of(SLT_BATCH_STACK, run_example);
     on_stack_of(SLT_BATCH_STACK, take_in);
     expect("the file fills all tables", batch_answer.refusal == SLT_NOT_REFUSED && memcmp(&counts, &full, sizeof full) == 0);
     on_stack_of(SLT_TRACE_STACK, trace_backward);

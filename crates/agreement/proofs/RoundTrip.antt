@@ -1,5 +1,5 @@
 -- Demand 2's round trip: the kept log, taken into a fresh trail with as many rows, yields the same entities, kept events and traces.
-use Prim.Native.Nat.{ℕ, _+_, _*_, _<_}
+use Prim.Native.Nat.{ℕ, _+_, _<_}
 use native.Mathlib.Omega.{arith}
 use mathlib.Core.Path.{_≡_, refl, sym, _∙_, ap, subst}
 use mathlib.Core.Bool.{Bool, true, false, cond}
@@ -14,7 +14,6 @@ use Rattle.rows.specs.declared.Counts.{Counts}
 use Rattle.rows.specs.declared.EntityRow.{EntityRow}
 use Rattle.record.specs.declared.Event.{Event}
 use Rattle.record.specs.declared.Record.{Record}
-use Rattle.record.specs.Layout.{headerLength, recordLength}
 use Rattle.record.specs.Header.{headerChecks}
 use Rattle.rules.specs.Trail.{Tables, capacityOf, Trail, trailOf, freshCounts}
 use Rattle.rules.specs.Sound.{isSound}
@@ -27,6 +26,7 @@ use Rattle.rules.specs.Calls.{Call, Held, held, heldAfter, Lent, AllLent, plain
 use Rattle.soundness.proofs.Facts.{sound-counts}
 use Rattle.soundness.proofs.Tests.{sort-low}
 use Rattle.causality.specs.Statements.{Logged}
+use Rattle.kept_log.specs.Written.{logLength}
 use Rattle.kept_log.specs.LogRecords.{logRecords, wholly}
 use Rattle.kept_log.proofs.LogRecords.{length-logRecords, length-logBytes}
 use Rattle.kept_log.proofs.ReadBack.{log-taken-header, log-taken-contents}
@@ -61,8 +61,7 @@ module _ (c : Counts) (t : Tables) (out : List ℕ) (s : isSound (capacityOf t) 
   log-refusal : (rs : List Record) → c ≡ worked rs .counts → keptLogOf c t out .answer .refusal ≡ numberOf (firstOf (logRefusals rs out))
   unfolding keptLogOf logChecks logRefusals firstOf
   log-refusal rs same =
-      let e : length (logBytes (trailOf c t)) ≡ headerLength + recordLength * (worked rs .counts .entities + worked rs .counts .edges)
-      = length-logBytes (trailOf c t) ∙ (λ j. headerLength + recordLength * (same j .entities + same j .edges)) in
+      let e : length (logBytes (trailOf c t)) ≡ logLength (worked rs .counts) = length-logBytes (trailOf c t) ∙ ap logLength same in
       rw s (answered-number (ltb (length out) (length (logBytes (trailOf c t)))) ∙ ap (λ (n : ℕ). numberOf (short (ltb (length out) n))) e)
 
   log-passed : keptLogOf c t out .answer .refusal ≡ 0 → firstOf (logChecks c t out) ≡ Passed

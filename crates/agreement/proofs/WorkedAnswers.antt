@@ -1,6 +1,6 @@
 -- The only answers that the claims allow for the worked list of calls. The computed answer agrees, by demands 2 and 3; two answers that
 -- agree are the same; and the rows of the worked trail say what the computed one is.
-use Prim.Native.Nat.{ℕ, _+_, _*_, _≤_, _<_}
+use Prim.Native.Nat.{ℕ, _≤_, _<_}
 use native.Mathlib.Omega.{arith}
 use mathlib.Core.Path.{_≡_, refl, sym, _∙_, ap}
 use mathlib.Core.List.{List, []}
@@ -13,7 +13,6 @@ use Rattle.rows.specs.declared.EntityRow.{EntityRow}
 use Rattle.rows.specs.declared.VersionRow.{VersionRow}
 use Rattle.rows.specs.declared.EdgeRow.{EdgeRow}
 use Rattle.rows.specs.Rows.{entityRow, versionRow, edgeRow, entityAt, versionAt, edgeAt}
-use Rattle.record.specs.Layout.{headerLength, recordLength}
 use Rattle.rules.specs.declared.BatchAnswer.{BatchAnswer}
 use Rattle.rules.specs.declared.BackwardAnswer.{BackwardAnswer}
 use Rattle.rules.specs.declared.ForwardAnswer.{ForwardAnswer}
@@ -24,6 +23,7 @@ use Rattle.rules.specs.PlainList.{worked}
 use Rattle.rules.specs.Worked.{room, file, batch, backward, forward, WorkedTrail}
 use Rattle.rules.proofs.Cases.{cases}
 use Rattle.closure.specs.Same.{SameRows}
+use Rattle.kept_log.specs.Written.{logLength}
 use Rattle.closure.proofs.ByRelations.{traces-by-relations}
 use Rattle.agreement.specs.Left.{LeftBy}
 use Rattle.agreement.specs.Demand2.{Holds}
@@ -110,7 +110,7 @@ unfolding logRefusals
 log-not-refused out l =
     let n = worked workedPlain .counts in
     let e : n .edges ≡ 4 = ap (λ (c : Counts). c .edges) (sym (worked-holds .counts)) ∙ edges-are worked-holds in
-    ap numberOf (all-false-passed _ (le-ltb (length out) (headerLength + recordLength * (n .entities + n .edges)) (omega (arith, four)), tt))
+    ap numberOf (all-false-passed _ (le-ltb (length out) (logLength n) (omega (arith, four)), tt))
 
 -- the same bytes for the four entities
 marks-are : (marks : List ℕ) {marks′ left : List ℕ} → SameMarks (worked workedPlain .counts .entities) marks marks′ → marks′ ≡ left → SameMarks 4 marks left

@@ -1,6 +1,6 @@
 -- Demand 2's round trip: the kept log, taken into a fresh trail with as many rows, yields the same entities, kept events and
 -- traces. Document 01: "Version numbers may differ after it is taken in again; work buffers are not compared then."
-use Prim.Native.Nat.{ℕ, _+_, _*_, _≤_, _<_}
+use Prim.Native.Nat.{ℕ, _+_, _≤_, _<_}
 use mathlib.Core.Path.{_≡_}
 use mathlib.Core.List.{List, [], _∷_}
 use lib.ListN.{length, take}
@@ -9,7 +9,7 @@ use Rattle.refusals.specs.declared.Refusal.the-variants.{OutputShort}
 use Rattle.refusals.specs.Refusals.{Check, check, firstOf, numberOf}
 use Rattle.rows.specs.declared.Counts.{Counts}
 use Rattle.record.specs.declared.Record.{Record}
-use Rattle.record.specs.Layout.{Bytes, headerLength, recordLength}
+use Rattle.record.specs.Layout.{Bytes}
 use Rattle.rules.specs.Trail.{Tables, Capacity, capacityOf, Trail, trailOf, freshCounts}
 use Rattle.rules.specs.Batch.{Batched, batchOf}
 use Rattle.rules.specs.Backward.{BackwardTrace}
@@ -18,6 +18,7 @@ use Rattle.rules.specs.KeptLog.{eventRecord, KeptLog, keptLogOf}
 use Rattle.rules.specs.PlainList.{worked}
 use Rattle.rules.specs.Calls.{Call, batch, backward, forward, plainAfter}
 use Rattle.closure.specs.ByRelations.{IsBackwardTrace, IsForwardTrace}
+use Rattle.kept_log.specs.Written.{logLength}
 use Rattle.agreement.specs.Left.{LeftBy}
 
 -- the files of the batches are of bytes
@@ -60,7 +61,7 @@ writtenLog k = take (k .answer .length) (k .out)
 
 -- a writer is refused only with 15: if, by the plain list, the output is shorter than the header, the declarations and the kept events
 unfoldable pub logRefusals : List Record → List ℕ → List Check
-logRefusals rs out = check (ltb (length out) (headerLength + recordLength * (worked rs .counts .entities + worked rs .counts .edges))) OutputShort ∷ []
+logRefusals rs out = check (ltb (length out) (logLength (worked rs .counts))) OutputShort ∷ []
 
 -- What a writer lent out returns and leaves after the calls cs: if it is not refused, and the files were of bytes, it wrote a log that
 -- a fresh trail takes in again, in tables that hold anything
