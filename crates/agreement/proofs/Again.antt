@@ -19,12 +19,12 @@ use Rattle.rules.specs.Decide.{decisionOf, keeps, makes}
 use Rattle.rules.specs.Record.{declared, happened, refusalOf, changeOf}
 use Rattle.rules.specs.PlainList.{changed, worked, itemsOf}
 use Rattle.rules.specs.History.{Item, kept, itemOf, keptEvents}
+use Rattle.rules.specs.Calls.{EnoughRows}
 use Rattle.soundness.specs.Taken.{EventTaken}
 use Rattle.soundness.proofs.Taken.{event-taken}
 use Rattle.soundness.proofs.Put.{put-other}
 use Rattle.causality.specs.Working.{Grown}
 use Rattle.agreement.specs.Taken.{Within, Taken, begun, next}
-use Rattle.agreement.specs.RoundTrip.{EnoughRows}
 use Rattle.agreement.proofs.Plain.{taken-fine}
 use Rattle.agreement.proofs.KeptOnly.{allKept, keptEvents-allKept}
 use Rattle.agreement.proofs.Decided.{decision-again}

@@ -1,9 +1,9 @@
 -- Demand 2: after any list of calls the counts and rows in use are those of the plain list, and a batch's answer says by how many
 -- records that list grew.
-use Prim.Native.Nat.{ℕ, suc, _+_}
+use Prim.Native.Nat.{ℕ, suc, _+_, _≤_}
 use native.Mathlib.Omega.{arith}
 use mathlib.Core.Path.{_≡_, refl, sym, _∙_, ap, subst}
-use mathlib.Core.List.{List, [], _∷_, reverseAux-eq}
+use mathlib.Core.List.{List, [], _∷_, _++_, reverse, reverseAux-eq}
 use lib.ListN.{length, take}
 use Rattle.refusals.specs.declared.Checked.{Checked}
 use Rattle.refusals.specs.declared.Checked.the-variants.{Passed, Refused}
@@ -25,7 +25,7 @@ use Rattle.rules.specs.Calls.{Call, batch, heldAfter, Lent, AllLent, plainAfter
 use Rattle.soundness.specs.Taken.{SortFits, Each}
 use Rattle.soundness.proofs.Decoded.{contents-fit}
 use Rattle.agreement.specs.Taken.{Within}
-use Rattle.agreement.specs.Demand2.{Holds, GrownBy, Answered, Demand2}
+use Rattle.agreement.specs.Demand2.{Holds, Answered, Demand2}
 use Rattle.agreement.proofs.Matching.{matches, lent-alike, lent-ready, Ready, checked-same, ready-next, capacity-within}
 use Rattle.agreement.proofs.Held.{known}
 use Rattle.agreement.proofs.Left.{left-by}
@@ -57,9 +57,15 @@ held-holds cs a t l =
       accepted-are = ap (λ (c : Counts). c .accepted) (sym (s .counts)) ∙ accepted-count (plainAfter cs);
       edges-are = k .faithful .edges;
       kept = k .faithful .log;
+      versions = k .faithful .versions;
     }
 
 -- By how many records the plain list grows
+
+-- rs became rs′ by the first n of the records more, in order
+pub record GrownBy (n : ℕ) (more rs rs′ : List Record) : Type 0 where
+  pub among : n ≤ length more
+  pub grown : rs′ ≡ reverse (take n more) ++ rs
 
 grown-none : (more rs : List Record) → GrownBy 0 more rs rs
 grown-none more rs = record { among = omega arith; grown = refl }
@@ -121,10 +127,9 @@ held-answer : (cs : List Call) → AllLent cs → (t : Tables) → Lent (heldAft
     → Answered (plainAfter cs) t file (plainAfter (batch t file ∷ cs)) (batchOf (heldAfter cs .counts) t file .answer)
 held-answer cs a t l file =
     let z = batch-taking (capacityOf t) (capacity-within t) (heldAfter cs .counts) t (plainAfter cs) (lent-ready _ _ (matches cs a) t l) file in
-    record {
-      refusal = z .refusal;
-      taken = subst (λ (n : ℕ). GrownBy n (contentsOf file .records) (plainAfter cs) (plainAfter (batch t file ∷ cs))) (omega (arith, z .taken)) (z .grown);
-    }
+    let n : z .number ≡ batchOf (heldAfter cs .counts) t file .answer .taken = omega (arith, z .taken) in
+    let g = subst (λ (k : ℕ). GrownBy k (contentsOf file .records) (plainAfter cs) (plainAfter (batch t file ∷ cs))) n (z .grown) in
+    record { refusal = z .refusal; among = g .among; grown = g .grown }
 
 pub demand2 : Demand2
 demand2 = record {

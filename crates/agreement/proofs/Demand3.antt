@@ -2,14 +2,10 @@
 -- relations is said of the buffers, since the calls are those of the relations.
 use Prim.Native.Nat.{ℕ, _<_}
 use native.Mathlib.Omega.{arith}
-use mathlib.Core.Path.{_≡_, sym, _∙_, subst}
+use mathlib.Core.Path.{_≡_, refl, sym, _∙_, subst}
 use mathlib.Core.Logic.{_↔_, Iff·trans}
-use mathlib.Core.Bool.{true, cond}
+use mathlib.Core.Bool.{true}
 use mathlib.Core.List.{List, [], _∷_}
-use lib.ListN.{length}
-use lib.Dec.{leb, ltb}
-use Rattle.refusals.specs.declared.Refusal.the-variants.{Undeclared, BufferShort}
-use Rattle.refusals.specs.declared.Checked.the-variants.{Passed, Refused}
 use Rattle.refusals.specs.Refusals.{firstOf, numberOf}
 use Rattle.rows.specs.declared.Counts.{Counts}
 use Rattle.record.specs.declared.Record.{Record}
@@ -17,16 +13,19 @@ use Rattle.rules.specs.Trail.{Tables, capacityOf, Trail, trailOf}
 use Rattle.rules.specs.Sound.{isSound}
 use Rattle.rules.specs.History.{IntakeTime}
 use Rattle.rules.specs.PlainList.{worked, itemsOf}
-use Rattle.rules.specs.Backward.{traceChecks, BackwardTrace}
-use Rattle.rules.specs.Forward.{ForwardTrace}
+use Rattle.rules.specs.Backward.{traceRefusals, traceChecks, BackwardTrace, backwardOf}
+use Rattle.rules.specs.Forward.{ForwardTrace, forwardOf}
 use Rattle.rules.specs.Calls.{Call, batch, backward, forward, heldAfter, Lent, AllLent, plainAfter}
 use Rattle.rules.proofs.Intake.{intakeOf-is, intake-one}
-use Rattle.closure.specs.ByRelations.{CountOf, HasMarkedVersion, Marking, BackwardTraced, ForwardTraced}
+use Rattle.closure.specs.ByRelations.{CountOf, HasMarkedVersion, Marking, IsBackwardTrace, IsForwardTrace}
 use Rattle.closure.proofs.Traces.{passed-entity}
 use Rattle.closure.proofs.Checked.{number-passed}
+use Rattle.closure.proofs.Traced.{BackwardTraced, ForwardTraced}
+use Rattle.closure.proofs.ByRelations.{traces-by-relations}
 use Rattle.causality.proofs.Theorem.{claims}
-use Rattle.agreement.specs.Demand3.{traceRefusals, MarksAre, BackwardAgrees, ForwardAgrees, BackwardTracesAgree, ForwardTracesAgree, Agrees, TracesAgree, Demand3}
-use Rattle.agreement.proofs.Plain.{Fine, taken-fine}
+use Rattle.agreement.specs.Left.{LeftBy}
+use Rattle.agreement.specs.Demand3.{MarksAre, BackwardAgrees, ForwardAgrees, BackwardClaim, ForwardClaim, TracesAgree, GainsAreKept, Demand3}
+use Rattle.agreement.proofs.Plain.{taken-fine}
 use Rattle.agreement.proofs.Matching.{Matches, matches, lent-sound}
 use Rattle.agreement.proofs.Held.{marked-some, Known, known}
 use Rattle.agreement.proofs.Left.{left-by}
@@ -46,36 +45,31 @@ module _ (c : Counts) (t : Tables) (rs : List Record) (k : Known (trailOf c t) (
     marks-are : MarksAre (worked rs .counts .entities) P marks′ n
     marks-are = record {
       bits = λ x l. g .entities .bits x (omega (arith, k .entities));
-      marked = λ x l. Iff·trans (g .entities .marked x (omega (arith, k .entities))) (h x);
-      counted = countOf-iff (λ x. (λ z. (in-plain (g .entities .inside x z), h x .0 z), λ z. h x .1 (z .1))) (g .counted);
+      marked = λ x l. (λ z. h x .0 (g .entities .marked x .0 (omega (arith, k .entities), z)), λ z. g .entities .marked x .1 (h x .1 z) .1);
+      counted = countOf-iff (λ x. (λ z. (in-plain (g .entities .marked x .1 z .0), h x .0 z), λ z. h x .1 (z .1))) (g .counted);
     }
 
   module _ (x time : ℕ) (work marks : List ℕ) (i : x < c .entities) where
-    backward-agrees : {b : BackwardTrace} → BackwardTraced T x time work marks b → BackwardAgrees rs x time b
-    backward-agrees z = marks-are (z .marking) (λ y. Iff·trans marked-some (k .document01 .backward x time (z .start) y i (z .is-start)))
+    backward-agrees : (b : BackwardTrace) → BackwardTraced T x time work marks b → BackwardAgrees rs x time b
+    backward-agrees b z = marks-are (z .2) (λ y. Iff·trans marked-some (k .document01 .backward x time (z .0) y i (z .1)))
 
-    forward-agrees : {f : ForwardTrace} → ForwardTraced T x time work marks f → ForwardAgrees rs x time f
-    forward-agrees z = record {
-      marks = marks-are (z .marking) (λ y. Iff·trans marked-some (k .document01 .forward x time (z .start) y i (z .is-start)));
-      intake = subst (IntakeTime x time (itemsOf rs)) (intake-one T (z .start) time (intakeOf-is T (z .start) time) (z .intake)) (k .document01 .intake x time (z .start) i (z .is-start));
+    forward-agrees : (f : ForwardTrace) → ForwardTraced T x time work marks f → ForwardAgrees rs x time f
+    forward-agrees f z = record {
+      marks = marks-are (z .3) (λ y. Iff·trans marked-some (k .document01 .forward x time (z .0) y i (z .1)));
+      intake = subst (IntakeTime x time (itemsOf rs)) (intake-one T (z .0) time (intakeOf-is T (z .0) time) (z .2)) (k .document01 .intake x time (z .0) i (z .1));
       never-less = λ y p.
-          let e = marked-some .1 (k .document01 .never-less x time (z .start) y i (z .is-start) p) in
-          let l = z .marking .entities .inside y e in
-          (omega (arith, k .entities), z .marking .entities .marked y l .1 e);
+          let e = z .3 .entities .marked y .1 (marked-some .1 (k .document01 .never-less x time (z .0) y i (z .1) p)) in
+          (omega (arith, k .entities, e .0), e .1);
     }
 
   -- over sound tables with the counts of the plain list, a trace is refused for what the plain list says
   module _ (s : isSound (capacityOf t) T ≡ true) (same : c ≡ worked rs .counts) (x time : ℕ) (work marks : List ℕ) where
-    checks-same : numberOf (firstOf (traceChecks c t x work marks)) ≡ numberOf (firstOf (traceRefusals rs x work marks))
-    unfolding traceChecks traceRefusals firstOf
-    checks-same =
-        rw s (λ j.
-        numberOf
-        (cond (leb (same j .entities) x) (Refused Undeclared)
-        (cond (ltb (length work) (same j .versions)) (Refused BufferShort) (cond (ltb (length marks) (same j .entities)) (Refused BufferShort) Passed))))
+    checks-same : numberOf (firstOf (traceChecks c t x work marks)) ≡ numberOf (firstOf (traceRefusals (worked rs .counts) x work marks))
+    unfolding traceChecks firstOf
+    checks-same = rw s (λ j. numberOf (firstOf (traceRefusals (same j) x work marks)))
 
     abbrev Rightly : ℕ → Type 0
-    Rightly n = n ≡ numberOf (firstOf (traceRefusals rs x work marks))
+    Rightly n = n ≡ numberOf (firstOf (traceRefusals (worked rs .counts) x work marks))
 
     rightly : {n : ℕ} → n ≡ numberOf (firstOf (traceChecks c t x work marks)) → Rightly n
     rightly p = p ∙ checks-same
@@ -83,44 +77,56 @@ module _ (c : Counts) (t : Tables) (rs : List Record) (k : Known (trailOf c t) (
     passed : {n : ℕ} → n ≡ numberOf (firstOf (traceChecks c t x work marks)) → n ≡ 0 → x < c .entities
     passed p q = passed-entity c t x work marks (number-passed c t x work marks (sym p ∙ q))
 
-    backward-answer : BackwardTracesAgree rs c t x time work marks
+    backward-answer : (b : BackwardTrace) → IsBackwardTrace c t x time work marks b → BackwardClaim rs x time work marks b
     backward-answer b r = record {
       refusal = rightly (r .refusal);
-      agrees = λ q. backward-agrees x time work marks (passed (r .refusal) q) (r .traced q);
+      agrees = λ q. backward-agrees x time work marks (passed (r .refusal) q) b (r .traced q);
     }
 
-    forward-answer : ForwardTracesAgree rs c t x time work marks
+    forward-answer : (f : ForwardTrace) → IsForwardTrace c t x time work marks f → ForwardClaim rs x time work marks f
     forward-answer f r = record {
       refusal = rightly (r .refusal);
-      agrees = λ q. forward-agrees x time work marks (passed (r .refusal) q) (r .traced q);
+      agrees = λ q. forward-agrees x time work marks (passed (r .refusal) q) f (r .traced q);
     }
 
-held-agrees : (cs : List Call) → AllLent cs → (t : Tables) → Lent (heldAfter cs) t → Agrees (plainAfter cs) (heldAfter cs .counts) t
-held-agrees cs a t l = record {
-  sound = s;
-  backward = backward-answer c t (plainAfter cs) (known _ _ m t l) s (sym (m .alike .counts));
-  forward = forward-answer c t (plainAfter cs) (known _ _ m t l) s (sym (m .alike .counts));
-  gains = claims .document01 (f .grown) (f .falling) .gain;
-  versions = omega (arith, claims .any-working (f .grown) .versions, m .alike .rows .entities, m .alike .rows .versions, m .alike .rows .edges);
-}
-  where
-    m : Matches (heldAfter cs) (plainAfter cs)
-    m = matches cs a
+module _ (cs : List Call) (a : AllLent cs) (t : Tables) (l : Lent (heldAfter cs) t) (x time : ℕ) (work marks : List ℕ) where
+  m : Matches (heldAfter cs) (plainAfter cs)
+  m = matches cs a
 
-    c : Counts
-    c = heldAfter cs .counts
+  abbrev c : Counts
+  c = heldAfter cs .counts
 
-    s : isSound (capacityOf t) (trailOf c t) ≡ true
-    s = lent-sound _ _ m t l
+  s : isSound (capacityOf t) (trailOf c t) ≡ true
+  s = lent-sound _ _ m t l
 
-    f : Fine (worked (plainAfter cs)) (itemsOf (plainAfter cs))
-    f = taken-fine (m .taken)
+  backward-claim : BackwardClaim (plainAfter cs) x time work marks (backwardOf c t x time work marks)
+  backward-claim =
+      backward-answer c t (plainAfter cs) (known _ _ m t l) s (sym (m .alike .counts)) x time work marks _ (traces-by-relations .backward c t x time work marks _ .0 refl)
+
+  forward-claim : ForwardClaim (plainAfter cs) x time work marks (forwardOf c t x time work marks)
+  forward-claim =
+      forward-answer c t (plainAfter cs) (known _ _ m t l) s (sym (m .alike .counts)) x time work marks _ (traces-by-relations .forward c t x time work marks _ .0 refl)
 
 traces-agree : (cs : List Call) → AllLent cs → TracesAgree cs
 traces-agree [] a = tt
 traces-agree (batch t file ∷ cs) a = traces-agree cs (a .1)
-traces-agree (backward t v time work marks ∷ cs) a = (held-agrees cs (a .1) t (a .0) .backward v time work marks, traces-agree cs (a .1))
-traces-agree (forward t u time work marks ∷ cs) a = (held-agrees cs (a .1) t (a .0) .forward u time work marks, traces-agree cs (a .1))
+traces-agree (backward t v time work marks ∷ cs) a = (backward-claim cs (a .1) t (a .0) v time work marks, traces-agree cs (a .1))
+traces-agree (forward t u time work marks ∷ cs) a = (forward-claim cs (a .1) t (a .0) u time work marks, traces-agree cs (a .1))
+
+gains-kept : (cs : List Call) → AllLent cs → GainsAreKept (itemsOf (plainAfter cs))
+gains-kept cs a = let f = taken-fine (matches cs a .taken) in claims .document01 (f .grown) (f .falling) .gain
 
 pub demand3 : Demand3
-demand3 cs c t l = (traces-agree cs (l .lent), left-by (λ k. Agrees (plainAfter cs) k t) l (held-agrees cs (l .lent) t (l .rows)))
+demand3 cs a = (traces-agree cs a, gains-kept cs a)
+
+-- of a trace lent what a list of calls leaves: it goes on the list
+module _ {cs : List Call} {c : Counts} {t : Tables} (l : LeftBy cs c t) (x time : ℕ) (work marks : List ℕ) where
+  pub next-backward : BackwardClaim (plainAfter cs) x time work marks (backwardOf c t x time work marks)
+  next-backward =
+      left-by (λ k. BackwardClaim (plainAfter cs) x time work marks (backwardOf k t x time work marks)) l
+      (demand3 (backward t x time work marks ∷ cs) (l .rows, l .lent) .0 .0)
+
+  pub next-forward : ForwardClaim (plainAfter cs) x time work marks (forwardOf c t x time work marks)
+  next-forward =
+      left-by (λ k. ForwardClaim (plainAfter cs) x time work marks (forwardOf k t x time work marks)) l
+      (demand3 (forward t x time work marks ∷ cs) (l .rows, l .lent) .0 .0)

@@ -9,12 +9,14 @@ use lib.ListN.{length, getD, take}
 use lib.Seq.{length-take-le}
 use Rattle.rows.specs.declared.Counts.{Counts}
 use Rattle.record.specs.declared.Record.{Record}
+use Rattle.rules.specs.declared.BatchAnswer.{BatchAnswer}
 use Rattle.rules.specs.Trail.{Tables, trailOf}
+use Rattle.rules.specs.Batch.{contentsOf}
 use Rattle.rules.specs.PlainList.{itemsOf}
 use Rattle.closure.specs.Same.{SameRows}
 use Rattle.closure.proofs.Descending.{count-one}
 use Rattle.causality.proofs.IntakeTime.{latestTime-one}
-use Rattle.agreement.specs.Demand2.{Holds, GrownBy}
+use Rattle.agreement.specs.Demand2.{Holds, Answered}
 use Rattle.agreement.specs.Demand3.{MarksAre}
 use Rattle.agreement.specs.Refuted.{SameMarks, Determined}
 
@@ -54,9 +56,11 @@ length-onto : (l r : List Record) → length (reverseAux l r) ≡ length l + len
 length-onto [] r = omega arith
 length-onto (x ∷ l) r = omega (arith, length-onto l (x ∷ r))
 
-grown-length : (n : ℕ) (more rs rs′ : List Record) → GrownBy n more rs rs′ → length rs′ ≡ n + length rs
-grown-length n more rs rs′ g =
-    ap length (g .grown ∙ sym (reverseAux-eq (take n more) rs)) ∙ length-onto (take n more) rs ∙ ap (λ (k : ℕ). k + length rs) (length-take-le n more (g .among))
+taken-length : (rs : List Record) (t : Tables) (file : List ℕ) (rs′ : List Record) (a : BatchAnswer) → Answered rs t file rs′ a → length rs′ ≡ a .taken + length rs
+taken-length rs t file rs′ a g =
+    let more = contentsOf file .records in
+    ap length (g .grown ∙ sym (reverseAux-eq (take (a .taken) more) rs)) ∙ length-onto (take (a .taken) more) rs
+    ∙ ap (λ (k : ℕ). k + length rs) (length-take-le (a .taken) more (g .among))
 
 pub determined : Determined
 determined = record {
@@ -67,5 +71,8 @@ determined = record {
     latestTime-one u time (itemsOf rs) _ (a .intake) ∙ sym (latestTime-one u time (itemsOf rs) _ (a′ .intake)),
   );
   holds = λ rs c c′ t t′ h h′. (counts-one rs c c′ t t′ h h′, rows-one rs c c′ t t′ h h′);
-  taken = λ n n′ more rs rs′ g g′. omega (arith, grown-length n more rs rs′ g, grown-length n′ more rs rs′ g′);
+  answer = λ rs t file rs′ a a′ g g′.
+      let p : a .refusal ≡ a′ .refusal = g .refusal ∙ sym (g′ .refusal) in
+      let q : a .taken ≡ a′ .taken = omega (arith, taken-length rs t file rs′ a g, taken-length rs t file rs′ a′ g′) in
+      λ i. record { refusal = p i; taken = q i };
 }

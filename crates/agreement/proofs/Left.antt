@@ -5,7 +5,6 @@ use mathlib.Core.Path.{_≡_, refl, sym, _∙_, subst}
 use mathlib.Core.Bool.{true}
 use mathlib.Core.List.{List, _∷_}
 use Rattle.rows.specs.declared.Counts.{Counts}
-use Rattle.rows.specs.Capacity.{entityCapacity, versionCapacity, edgeCapacity}
 use Rattle.rules.specs.Trail.{Tables, capacityOf, trailOf}
 use Rattle.rules.specs.Sound.{isSound}
 use Rattle.rules.specs.Batch.{batchOf}
@@ -18,11 +17,8 @@ use Rattle.agreement.proofs.Matching.{matches, lent-sound}
 
 -- the counts and rows that stand in tables are lent with them
 pub own-lent : (c : Counts) (t : Tables) → CountFacts (capacityOf t) c → Lent (held c t) t
-unfolding entityCapacity versionCapacity edgeCapacity
 own-lent c t f = record {
-  entity-room = omega (arith, f .entities-in);
-  version-room = omega (arith, f .versions-in);
-  edge-room = omega (arith, f .edges-in);
+  room = record { entities = f .entities-in; versions = f .versions-in; edges = f .edges-in };
   entity-rows = λ k l. refl;
   version-rows = λ k l. refl;
   edge-rows = λ k l. refl;
@@ -53,14 +49,17 @@ module _ (cs : List Call) (t : Tables) (a : AllLent cs) (l : Lent (heldAfter cs)
     lent = a;
     counts = refl;
     rows = record {
-      entity-room = m .entity-room;
-      version-room = m .version-room;
-      edge-room = m .edge-room;
+      room = m .room;
       entity-rows = λ k i. m .entity-rows k i ∙ l .entity-rows k i;
       version-rows = λ k i. m .version-rows k i ∙ l .version-rows k i;
       edge-rows = λ k i. m .edge-rows k i ∙ l .edge-rows k i;
     };
   }
+
+pub after-batch : (cs : List Call) (c : Counts) (t : Tables) → LeftBy cs c t → (file : List ℕ)
+    → LeftBy (batch t file ∷ cs) (batchOf c t file .counts) (batchOf c t file .tables)
+after-batch cs c t l file =
+    left-by (λ k. LeftBy (batch t file ∷ cs) (batchOf k t file .counts) (batchOf k t file .tables)) l (batch-left cs t (l .lent) (l .rows) file)
 
 pub leaving : Leaving
 leaving = record {
@@ -68,15 +67,12 @@ leaving = record {
     lent = tt;
     counts = refl;
     rows = record {
-      entity-room = omega arith;
-      version-room = omega arith;
-      edge-room = omega arith;
+      room = record { entities = omega arith; versions = omega arith; edges = omega arith };
       entity-rows = λ k i. absurd (omega arith);
       version-rows = λ k i. absurd (omega arith);
       edge-rows = λ k i. absurd (omega arith);
     };
   };
-  batch = λ cs c t l file. left-by (λ k. LeftBy (batch t file ∷ cs) (batchOf k t file .counts) (batchOf k t file .tables)) l (batch-left cs t (l .lent) (l .rows) file);
   backward = λ cs c t l v time work marks. left-by (λ k. LeftBy (backward t v time work marks ∷ cs) k t) l (backward-left cs t (l .lent) (l .rows) v time work marks);
   forward = λ cs c t l u time work marks. left-by (λ k. LeftBy (forward t u time work marks ∷ cs) k t) l (forward-left cs t (l .lent) (l .rows) u time work marks);
   moved = λ cs c t l other. left-by (λ k. Lent (held k t) other → LeftBy cs k other) l (moved-left cs t (l .lent) (l .rows) other);

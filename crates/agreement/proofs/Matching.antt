@@ -1,16 +1,13 @@
 -- After any list of calls the counts and rows in use are those that the plain list gives when worked from none.
-use Prim.Native.Nat.{ℕ, _+_, _*_, _≤_}
+use Prim.Native.Nat.{ℕ, _+_}
 use native.Mathlib.Omega.{arith}
 use mathlib.Core.Path.{_≡_, refl, sym, _∙_, ap, subst}
 use mathlib.Core.Bool.{true}
 use mathlib.Core.List.{List, [], _∷_}
-use lib.ListN.{length}
 use Rattle.refusals.specs.declared.Checked.{Checked}
 use Rattle.refusals.specs.declared.Checked.the-variants.{Passed, Refused}
 use Rattle.refusals.specs.Refusals.{firstOf}
 use Rattle.rows.specs.declared.Counts.{Counts}
-use Rattle.rows.specs.Rows.{entityWidth, versionWidth, edgeWidth}
-use Rattle.rows.specs.Capacity.{entityCapacity, versionCapacity, edgeCapacity}
 use Rattle.rows.proofs.Capacity.{entities-most, versions-most, edges-most}
 use Rattle.record.specs.declared.Record.{Record}
 use Rattle.record.specs.Header.{headerChecks}
@@ -19,7 +16,7 @@ use Rattle.rules.specs.Sound.{isSound}
 use Rattle.rules.specs.Record.{refusalOf, stepOf}
 use Rattle.rules.specs.PlainList.{worked, itemsOf, added, addedBy}
 use Rattle.rules.specs.Batch.{Batched, batched, ifRefused, contentsOf, takeIn, batchChecks, batchOf}
-use Rattle.rules.specs.Calls.{Call, batch, backward, forward, Held, heldAfter, Lent, AllLent, plainAfter}
+use Rattle.rules.specs.Calls.{Call, batch, backward, forward, Held, heldAfter, EnoughRows, Lent, AllLent, plainAfter}
 use Rattle.soundness.specs.Facts.{CountFacts, RowFacts}
 use Rattle.soundness.specs.Taken.{SortFits, Each}
 use Rattle.soundness.proofs.Passes.{facts-sound}
@@ -40,14 +37,11 @@ pub record Matches (h : Held) (rs : List Record) : Type 0 where
 pub capacity-within : (t : Tables) → Within (capacityOf t)
 capacity-within t = record { entities = entities-most (t .entities); versions = versions-most (t .versions); edges = edges-most (t .edges) }
 
--- tables that hold the rows in use have the capacity for them
-room-counts : (c : Counts) (t : Tables) → CountFacts greatest c → entityWidth * c .entities ≤ length (t .entities) → versionWidth * c .versions ≤ length (t .versions)
-    → edgeWidth * c .edges ≤ length (t .edges) → CountFacts (capacityOf t) c
-unfolding entityCapacity versionCapacity edgeCapacity
-room-counts c t f p q r = record {
-  entities-in = omega (arith, f .entities-in);
-  versions-in = omega (arith, f .versions-in);
-  edges-in = omega (arith, f .edges-in);
+room-counts : (c : Counts) (cap : Capacity) → CountFacts greatest c → EnoughRows cap c → CountFacts cap c
+room-counts c cap f r = record {
+  entities-in = r .entities;
+  versions-in = r .versions;
+  edges-in = r .edges;
   edges-accepted = f .edges-accepted;
   accepted-most = f .accepted-most;
 }
@@ -77,7 +71,7 @@ module _ (h : Held) (rs : List Record) (m : Matches h rs) (t : Tables) (l : Lent
   pub lent-sound : isSound (capacityOf t) (trailOf (h .counts) t) ≡ true
   lent-sound =
       facts-sound (trailOf (h .counts) t) lent-rows (capacityOf t)
-      (room-counts (h .counts) t (subst (CountFacts greatest) (m .alike .counts) (fine .counted)) (l .entity-room) (l .version-room) (l .edge-room))
+      (room-counts (h .counts) (capacityOf t) (subst (CountFacts greatest) (m .alike .counts) (fine .counted)) (l .room))
 
 -- Records taken in, in tables that keep their capacity
 

@@ -1,20 +1,19 @@
 -- Tables without an edge contradict demand 3 alone: a backward trace over them marks versions of its own entity and no others, but the
 -- full list has a causal path from another.
-use Prim.Native.Nat.{ℕ}
+use Prim.Native.Nat.{ℕ, _≤_}
 use native.Mathlib.Omega.{arith}
 use mathlib.Core.Path.{_≡_, refl, sym, _∙_, subst}
 use mathlib.Core.List.{List}
-use lib.ListN.{replicate}
+use lib.ListN.{length}
 use Rattle.rows.specs.declared.Counts.{Counts}
 use Rattle.rules.specs.Trail.{Tables, Trail, trailOf}
 use Rattle.rules.specs.Start.{OnChain}
 use Rattle.rules.specs.Backward.{BackwardMarks, backwardOf}
-use Rattle.soundness.proofs.Facts.{sound-rows}
 use Rattle.closure.proofs.StartVersion.{onChain-in}
 use Rattle.closure.proofs.Traces.{passed-entity}
-use Rattle.closure.proofs.Checked.{number-passed}
+use Rattle.closure.proofs.Checked.{number-passed, passed-rows}
 use Rattle.closure.proofs.ByRelations.{traces-by-relations}
-use Rattle.agreement.specs.Demand3.{Agrees}
+use Rattle.agreement.specs.Demand3.{BackwardClaim}
 use Rattle.agreement.specs.Refuted.{workedPlain}
 use Rattle.agreement.proofs.WorkedAnswers.{rows, not-refused, backward-is}
 
@@ -24,21 +23,16 @@ on-chain e o (BackwardMarks.intoStart k l p i q) = absurd (omega arith)
 on-chain e o (BackwardMarks.intoOther k m n l p q) = absurd (omega arith)
 on-chain e o (BackwardMarks.previous m n q) = OnChain.previous (on-chain e o m) n q
 
-module _ (c : Counts) (t : Tables) (e : c .edges ≡ 0) (a : Agrees workedPlain c t) where
-  abbrev work : List ℕ
-  work = replicate 5 0
-
-  abbrev marks : List ℕ
-  marks = replicate 4 0
-
+module _ (c : Counts) (t : Tables) (work marks : List ℕ) (e : c .edges ≡ 0) (l : 5 ≤ length work) (j : 4 ≤ length marks)
+    (g : BackwardClaim workedPlain 2 6 work marks (backwardOf c t 2 6 work marks)) where
   pub no-edge-traced : ⊥
   no-edge-traced =
       let r = traces-by-relations .backward c t 2 6 work marks _ .0 refl in
-      let g = a .backward 2 6 work marks _ r in
-      let z : backwardOf c t 2 6 work marks .answer .refusal ≡ 0 = g .refusal ∙ not-refused 2 work marks (omega arith) (omega arith) (omega arith) in
-      let i = passed-entity c t 2 work marks (number-passed c t 2 work marks (sym (r .refusal) ∙ z)) in
+      let z : backwardOf c t 2 6 work marks .answer .refusal ≡ 0 = g .refusal ∙ not-refused 2 work marks (omega arith) l j in
+      let p = number-passed c t 2 work marks (sym (r .refusal) ∙ z) in
       let b = r .traced z in
       let y = backward-is (rows .p4) (backwardOf c t 2 6 work marks) (g .agrees z) .0 0 (omega arith) in
-      let m = b .marking .entities .marked 0 (omega arith) .0 y in
-      let o = onChain-in (trailOf c t) (sound-rows _ _ (a .sound)) i (on-chain e (b .is-start .on-chain) (m .1)) .1 in
+      let i = passed-entity c t 2 work marks p in
+      let m = b .2 .entities .marked 0 .0 (omega arith, y) in
+      let o = onChain-in (trailOf c t) (passed-rows c t 2 work marks p) i (on-chain e (b .1 .on-chain) (m .1)) .1 in
       omega (arith, m .2, o)

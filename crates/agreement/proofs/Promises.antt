@@ -11,9 +11,9 @@ use Rattle.rules.specs.KeptLog.{KeptLog, keptLogOf}
 use Rattle.soundness.proofs.Frame.{frame}
 use Rattle.closure.proofs.ByRelations.{traces-by-relations}
 use Rattle.agreement.specs.Promises.{BatchPromise, BackwardPromise, ForwardPromise, LogPromise}
-use Rattle.agreement.proofs.Left.{leaving}
+use Rattle.agreement.proofs.Left.{after-batch}
 use Rattle.agreement.proofs.Demand2.{demand2}
-use Rattle.agreement.proofs.Demand3.{demand3}
+use Rattle.agreement.proofs.Demand3.{next-backward, next-forward}
 use Rattle.agreement.proofs.RoundTrip.{round-trip}
 
 module _ (c : Counts) (t : Tables) where
@@ -22,28 +22,26 @@ module _ (c : Counts) (t : Tables) where
       subst (BatchPromise c t file) (sym q)
       (record {
         framed = frame c t file;
-        after = λ cs l.
-            let m = leaving .batch cs c t l file in
-            record { left = m; answer = demand2 .answer cs c t l file; holds = demand2 .holds _ _ _ m; agrees = demand3 _ _ _ m .1 };
+        left = λ cs l. after-batch cs c t l file;
+        answer = λ cs l. demand2 .answer cs c t l file;
+        holds = λ cs l. demand2 .holds _ _ _ (after-batch cs c t l file);
       })
 
   module _ (x time : ℕ) (work marks : List ℕ) where
     pub backward-promise : (b : BackwardTrace) → b ≡ backwardOf c t x time work marks → BackwardPromise c t x time work marks b
     backward-promise b q =
         subst (BackwardPromise c t x time work marks) (sym q)
-        (let r = traces-by-relations .backward c t x time work marks _ .0 refl in
-        record {
-          traced = r;
-          after = λ cs l. record { left = leaving .backward cs c t l x time work marks; agrees = demand3 cs c t l .1 .backward x time work marks _ r };
+        (record {
+          traced = traces-by-relations .backward c t x time work marks _ .0 refl;
+          agrees = λ cs l. next-backward l x time work marks;
         })
 
     pub forward-promise : (f : ForwardTrace) → f ≡ forwardOf c t x time work marks → ForwardPromise c t x time work marks f
     forward-promise f q =
         subst (ForwardPromise c t x time work marks) (sym q)
-        (let r = traces-by-relations .forward c t x time work marks _ .0 refl in
-        record {
-          traced = r;
-          after = λ cs l. record { left = leaving .forward cs c t l x time work marks; agrees = demand3 cs c t l .1 .forward x time work marks _ r };
+        (record {
+          traced = traces-by-relations .forward c t x time work marks _ .0 refl;
+          agrees = λ cs l. next-forward l x time work marks;
         })
 
   pub log-promise : (out : List ℕ) (k : KeptLog) → k ≡ keptLogOf c t out → LogPromise c t out k

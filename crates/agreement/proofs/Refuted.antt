@@ -16,16 +16,16 @@ use Rattle.rows.specs.declared.VersionRow.{VersionRow}
 use Rattle.rows.specs.declared.EdgeRow.{EdgeRow}
 use Rattle.rules.specs.declared.BatchAnswer.{BatchAnswer}
 use Rattle.rules.specs.PlainList.{worked}
-use Rattle.agreement.specs.Demand3.{traceRefusals}
-use Rattle.agreement.specs.Refuted.{workedPlain, TakenClaim, Refuted}
-use Rattle.agreement.proofs.WorkedAnswers.{rows, entities-are, versions-are, edges-are, accepted-are, last-is, stager-row, report-version, edge-at-6, taken-is, refusal-is, not-refused, log-not-refused, backward-is, forward-is}
+use Rattle.rules.specs.Backward.{traceRefusals}
+use Rattle.agreement.specs.Refuted.{workedPlain, NoAnswer, Refuted}
+use Rattle.agreement.proofs.WorkedAnswers.{rows, entities-are, versions-are, edges-are, accepted-are, last-is, stager-row, report-version, edge-at-6, answer-is, not-refused, log-not-refused, backward-is, forward-is}
 use Rattle.agreement.proofs.NoEdge.{no-edge-traced}
 use Rattle.agreement.proofs.LongerPaths.{montage-back, study-forward, montage-forward}
 use Rattle.agreement.proofs.GainDropped.{time-6-kept}
 
 -- the plain list refuses no trace with 16
-not-16 : (rs : List Record) (x : ℕ) (work marks : List ℕ) → numberOf (firstOf (traceRefusals rs x work marks)) ≡ refusalNo Unsound → ⊥
-unfolding traceRefusals firstOf
+not-16 : (rs : List Record) (x : ℕ) (work marks : List ℕ) → numberOf (firstOf (traceRefusals (worked rs .counts) x work marks)) ≡ refusalNo Unsound → ⊥
+unfolding firstOf
 not-16 rs x work marks = go (leb (worked rs .counts .entities) x) (ltb (length work) (worked rs .counts .versions)) (ltb (length marks) (worked rs .counts .entities))
   where
     go : (a b d : Bool) → numberOf (cond a (Refused Undeclared) (cond b (Refused BufferShort) (cond d (Refused BufferShort) Passed))) ≡ refusalNo Unsound → ⊥
@@ -34,8 +34,8 @@ not-16 rs x work marks = go (leb (worked rs .counts .entities) x) (ltb (length w
     go false false true q = omega arith
     go false false false q = omega arith
 
-eleven : (k : ℕ) → TakenClaim 8 k → k ≡ 11
-eleven k g = taken-is 8 k g ∙ ap (λ (a : BatchAnswer). a .taken) (rows .p1-answer)
+eleven : (k : ℕ) → (k ≡ 11 → ⊥) → NoAnswer 8 (λ a. a .taken ≡ k)
+eleven k n a w g = n (sym w ∙ ap (λ (z : BatchAnswer). z .taken) (answer-is 8 a g ∙ rows .p1-answer))
 
 pub refuted : Refuted
 refuted = record {
@@ -74,13 +74,13 @@ refuted = record {
   edge-from-older = λ c t w h. omega (arith, ap (λ (r : EdgeRow). r .from .0) (edge-at-6 h));
   end-not-widened = λ c t w h. omega (arith, ap (λ (r : VersionRow). r .end) (report-version h));
   latest-not-new = λ c t w h. omega (arith, ap (λ (r : EntityRow). r .latest .0) (stager-row h));
-  all-refused = λ g. omega (arith, eleven 0 g);
-  first-record-taken = λ g. omega (arith, eleven 1 g);
-  no-row-left = λ g. omega (arith, eleven 9 g);
-  full-before-repeat = λ g. omega (arith, taken-is 4 10 g, ap (λ (a : BatchAnswer). a .taken) (rows .p10));
-  refused-for-nothing = λ a w g. w (refusal-is 8 a g ∙ ap (λ (r : BatchAnswer). r .refusal) (rows .p1-answer));
-  refused-for-another = λ a w g. w (refusal-is 3 a g ∙ ap (λ (r : BatchAnswer). r .refusal) (rows .p11));
-  more-than-the-file = λ g. omega (arith, eleven 12 g);
+  all-refused = eleven 0 (λ q. omega arith);
+  first-record-taken = eleven 1 (λ q. omega arith);
+  no-row-left = eleven 9 (λ q. omega arith);
+  full-before-repeat = λ a w g. omega (arith, ap (λ (z : BatchAnswer). z .taken) (answer-is 4 a g ∙ rows .p10));
+  refused-for-nothing = λ a w g. w (ap (λ (z : BatchAnswer). z .refusal) (answer-is 8 a g ∙ rows .p1-answer));
+  refused-for-another = λ a w g. w (ap (λ (z : BatchAnswer). z .refusal) (answer-is 3 a g ∙ rows .p11));
+  more-than-the-file = eleven 12 (λ q. omega arith);
   gain-dropped = λ hs q w g. let k = time-6-kept hs q g in w (k .0) (k .1) (k .2);
   version-each-event = λ c t e d v a. omega (arith, a .versions);
   log-always-refused = λ c t out k l w a. w (a .refusal ∙ log-not-refused out l);

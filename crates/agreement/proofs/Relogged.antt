@@ -14,10 +14,10 @@ use Rattle.rules.specs.Trail.{Capacity, Trail}
 use Rattle.rules.specs.Record.{refusalOf, changeOf}
 use Rattle.rules.specs.PlainList.{worked, itemsOf}
 use Rattle.rules.specs.KeptLog.{declarationRecord}
+use Rattle.rules.specs.Calls.{EnoughRows}
 use Rattle.soundness.specs.Taken.{SortFits}
 use Rattle.soundness.proofs.Put.{put-same, put-other}
 use Rattle.agreement.specs.Taken.{Within, Taken, begun, next}
-use Rattle.agreement.specs.RoundTrip.{EnoughRows}
 use Rattle.agreement.proofs.Passing.{declaration-passes}
 
 -- the records of f below n, the last first

@@ -22,7 +22,7 @@ use Rattle.rules.specs.History.{keptEvents}
 use Rattle.rules.specs.Batch.{ifRefused, contentsOf, batchOf}
 use Rattle.rules.specs.Marks.{overlaid}
 use Rattle.rules.specs.KeptLog.{KeptLog, logBytes, logChecks, keptLog, keptLogOf}
-use Rattle.rules.specs.Calls.{Call, Held, held, heldAfter, Lent, AllLent, plainAfter}
+use Rattle.rules.specs.Calls.{Call, Held, held, heldAfter, Lent, AllLent, EnoughRows, plainAfter}
 use Rattle.soundness.proofs.Facts.{sound-counts}
 use Rattle.soundness.proofs.Tests.{sort-low}
 use Rattle.causality.specs.Statements.{Logged}
@@ -30,7 +30,7 @@ use Rattle.kept_log.specs.Written.{logLength}
 use Rattle.kept_log.specs.LogRecords.{logRecords, wholly}
 use Rattle.kept_log.proofs.LogRecords.{length-logRecords, length-logBytes}
 use Rattle.kept_log.proofs.ReadBack.{log-taken-header, log-taken-contents}
-use Rattle.agreement.specs.RoundTrip.{EnoughRows, TakenAgain, logRefusals, LogAgrees, RoundTrip}
+use Rattle.agreement.specs.RoundTrip.{TakenAgain, logRefusals, LogAgrees, RoundTrip}
 use Rattle.agreement.proofs.Matching.{Matches, matches, lent-alike, lent-rows, lent-sound, Ready, capacity-within}
 use Rattle.agreement.proofs.Held.{Known, known}
 use Rattle.agreement.proofs.Left.{own-lent, left-by}

@@ -21,7 +21,6 @@ use Rattle.rules.specs.Backward.{backwardEntities, traceChecks, BackwardTrace, 
 use Rattle.rules.specs.Forward.{forwardEntities, forwardIntake, ForwardTrace, forwardOf}
 use Rattle.rules.specs.KeptLog.{declarationRecord, eventRecord, encodedBelow, logBytes, logChecks, keptLog, keptLogOf}
 use Rattle.closure.proofs.Traces.{passed-entity}
-use Rattle.closure.proofs.ByRelations.{traces-by-relations}
 use Rattle.kept_log.proofs.Same.{encodedBelow-same}
 use Rattle.agreement.specs.RoundTrip.{SameTrail, SameCalls}
 
@@ -104,17 +103,9 @@ module _ (c : Counts) (t : Tables) (d : Counts) (u : Tables) (s : SameTraces (tr
 
   pub same-calls : SameCalls c t d u
   same-calls = record {
-    backward = λ v time work marks b b′ p q.
-        let e = traces-by-relations .backward c t v time work marks b .1 p in
-        let e′ = traces-by-relations .backward d u v time work marks b′ .1 q in (
-          ap (λ (z : BackwardTrace). z .answer) e′ ∙ backward-answer v time work marks ∙ ap (λ (z : BackwardTrace). z .answer) (sym e),
-          ap (λ (z : BackwardTrace). z .marks) e′ ∙ backward-marks v time work marks ∙ ap (λ (z : BackwardTrace). z .marks) (sym e),
-        );
-    forward = λ x time work marks f f′ p q.
-        let e = traces-by-relations .forward c t x time work marks f .1 p in
-        let e′ = traces-by-relations .forward d u x time work marks f′ .1 q in (
-          ap (λ (z : ForwardTrace). z .answer) e′ ∙ forward-answer x time work marks ∙ ap (λ (z : ForwardTrace). z .answer) (sym e),
-          ap (λ (z : ForwardTrace). z .marks) e′ ∙ forward-marks x time work marks ∙ ap (λ (z : ForwardTrace). z .marks) (sym e),
-        );
+    backward-answer = backward-answer;
+    backward-marks = backward-marks;
+    forward-answer = forward-answer;
+    forward-marks = forward-marks;
     log = log-same;
   }

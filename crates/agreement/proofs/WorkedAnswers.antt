@@ -2,7 +2,7 @@
 -- agree are the same; and the rows of the worked trail say what the computed one is.
 use Prim.Native.Nat.{ℕ, _≤_, _<_}
 use native.Mathlib.Omega.{arith}
-use mathlib.Core.Path.{_≡_, refl, sym, _∙_, ap}
+use mathlib.Core.Path.{_≡_, sym, _∙_, ap}
 use mathlib.Core.List.{List, []}
 use lib.ListN.{length, getD}
 use borrow.Author.Tests.{le-ltb, lt-leb}
@@ -17,22 +17,22 @@ use Rattle.rules.specs.declared.BatchAnswer.{BatchAnswer}
 use Rattle.rules.specs.declared.BackwardAnswer.{BackwardAnswer}
 use Rattle.rules.specs.declared.ForwardAnswer.{ForwardAnswer}
 use Rattle.rules.specs.Trail.{Tables, trailOf, counts, freshCounts, none}
-use Rattle.rules.specs.Backward.{BackwardTrace}
+use Rattle.rules.specs.Backward.{traceRefusals, BackwardTrace}
 use Rattle.rules.specs.Forward.{ForwardTrace}
 use Rattle.rules.specs.PlainList.{worked}
+use Rattle.rules.specs.Calls.{plainAfter}
 use Rattle.rules.specs.Worked.{room, file, batch, backward, forward, WorkedTrail}
 use Rattle.rules.proofs.Cases.{cases}
 use Rattle.closure.specs.Same.{SameRows}
 use Rattle.kept_log.specs.Written.{logLength}
-use Rattle.closure.proofs.ByRelations.{traces-by-relations}
 use Rattle.agreement.specs.Left.{LeftBy}
-use Rattle.agreement.specs.Demand2.{Holds}
-use Rattle.agreement.specs.Demand3.{BackwardAgrees, ForwardAgrees, traceRefusals}
+use Rattle.agreement.specs.Demand2.{Holds, Answered}
+use Rattle.agreement.specs.Demand3.{BackwardAgrees, ForwardAgrees}
 use Rattle.agreement.specs.RoundTrip.{logRefusals}
-use Rattle.agreement.specs.Refuted.{SameMarks, workedCalls, workedPlain, AnswerClaim, TakenClaim}
-use Rattle.agreement.proofs.Left.{leaving}
+use Rattle.agreement.specs.Refuted.{SameMarks, workedCalls, workedPlain}
+use Rattle.agreement.proofs.Left.{after-batch, leaving}
 use Rattle.agreement.proofs.Demand2.{demand2}
-use Rattle.agreement.proofs.Demand3.{demand3}
+use Rattle.agreement.proofs.Demand3.{next-backward, next-forward}
 use Rattle.agreement.proofs.Determined.{determined}
 
 pub rows : WorkedTrail
@@ -40,7 +40,7 @@ rows = cases .0
 
 worked-left : LeftBy (workedCalls 8) (batch 8 .counts) (batch 8 .tables)
 unfolding batch
-worked-left = leaving .batch [] freshCounts (room 8) (leaving .fresh (room 8)) (file 1)
+worked-left = after-batch [] freshCounts (room 8) (leaving .fresh (room 8)) (file 1)
 
 -- Counts and tables
 
@@ -80,13 +80,9 @@ module _ {c : Counts} {t : Tables} (h : Holds workedPlain c t) where
 
 -- How many records a batch took in, lent n edge rows, and what it was refused for
 
-pub taken-is : (n k : ℕ) → TakenClaim n k → k ≡ batch n .answer .taken
+pub answer-is : (n : ℕ) (a : BatchAnswer) → Answered [] (room n) (file 1) (plainAfter (workedCalls n)) a → a ≡ batch n .answer
 unfolding batch
-taken-is n k g = determined .taken k _ _ [] _ g (demand2 .answer [] freshCounts (room n) (leaving .fresh (room n)) (file 1) .taken)
-
-pub refusal-is : (n : ℕ) (a : BatchAnswer) → AnswerClaim n a → a .refusal ≡ batch n .answer .refusal
-unfolding batch
-refusal-is n a g = g .refusal ∙ sym (demand2 .answer [] freshCounts (room n) (leaving .fresh (room n)) (file 1) .refusal)
+answer-is n a g = determined .answer [] (room n) (file 1) _ a _ g (demand2 .answer [] freshCounts (room n) (leaving .fresh (room n)) (file 1))
 
 -- Traces
 
@@ -97,8 +93,7 @@ five : worked workedPlain .counts .versions ≡ 5
 five = ap (λ (c : Counts). c .versions) (sym (worked-holds .counts)) ∙ versions-are worked-holds
 
 -- a trace of one of the four entities with buffers that are long enough is not refused
-pub not-refused : (x : ℕ) (work marks : List ℕ) → x < 4 → 5 ≤ length work → 4 ≤ length marks → numberOf (firstOf (traceRefusals workedPlain x work marks)) ≡ 0
-unfolding traceRefusals
+pub not-refused : (x : ℕ) (work marks : List ℕ) → x < 4 → 5 ≤ length work → 4 ≤ length marks → numberOf (firstOf (traceRefusals (worked workedPlain .counts) x work marks)) ≡ 0
 not-refused x work marks l w m =
     let n = worked workedPlain .counts in
     ap numberOf
@@ -119,7 +114,7 @@ marks-are marks s q x l = s x (omega (arith, four)) ∙ ap (λ (m : List ℕ). g
 module _ {v time n : ℕ} {marks : List ℕ} (q : (backward v time .answer ≡ record { refusal = 0; count = n }) × (backward v time .marks ≡ marks)) where
   pub backward-right : BackwardAgrees workedPlain v time (backward v time)
   unfolding backward
-  backward-right = demand3 (workedCalls 8) _ _ worked-left .1 .backward v time _ _ _ (traces-by-relations .backward _ _ v time _ _ _ .0 refl) .agrees (ap (λ (a : BackwardAnswer). a .refusal) (q .0))
+  backward-right = next-backward worked-left v time _ _ .agrees (ap (λ (a : BackwardAnswer). a .refusal) (q .0))
 
   pub backward-is : (b : BackwardTrace) → BackwardAgrees workedPlain v time b → SameMarks 4 (b .marks) marks × (b .answer .count ≡ n)
   backward-is b a =
@@ -129,7 +124,7 @@ module _ {v time n : ℕ} {marks : List ℕ} (q : (backward v time .answer ≡ r
 module _ {u time n i : ℕ} {marks : List ℕ} (q : (forward u time .answer ≡ record { refusal = 0; count = n; intake = i }) × (forward u time .marks ≡ marks)) where
   forward-right : ForwardAgrees workedPlain u time (forward u time)
   unfolding forward
-  forward-right = demand3 (workedCalls 8) _ _ worked-left .1 .forward u time _ _ _ (traces-by-relations .forward _ _ u time _ _ _ .0 refl) .agrees (ap (λ (a : ForwardAnswer). a .refusal) (q .0))
+  forward-right = next-forward worked-left u time _ _ .agrees (ap (λ (a : ForwardAnswer). a .refusal) (q .0))
 
   pub forward-is : (f : ForwardTrace) → ForwardAgrees workedPlain u time f → SameMarks 4 (f .marks) marks × (f .answer .count ≡ n) × (f .answer .intake ≡ i)
   forward-is f a =

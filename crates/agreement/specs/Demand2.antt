@@ -1,6 +1,6 @@
 -- Demand 2, of every list of calls: the tables are those that the plain list gives when worked from none. The working
 -- (`worked`) is the version building of the paper's section 4 under document 01's rules.
-use Prim.Native.Nat.{ℕ, _≤_, _<_}
+use Prim.Native.Nat.{ℕ, _+_, _≤_, _<_}
 use mathlib.Core.Path.{_≡_}
 use mathlib.Core.List.{List, _∷_, _++_, reverse}
 use lib.ListN.{length, take}
@@ -27,16 +27,14 @@ pub record Holds (rs : List Record) (c : Counts) (t : Tables) : Type 0 where
   -- the edges are the kept events in order, with their kinds, entities and times
   pub edges-are : c .edges ≡ length (keptEvents (itemsOf rs))
   pub kept : Logged (trailOf c t) (keptEvents (itemsOf rs))
+  -- "Over a trail grown from fresh, versions ≤ entities + edges."
+  pub versions : c .versions ≤ c .entities + c .edges
 
--- the plain list rs became rs′ by the first n of the records more, in order
-pub record GrownBy (n : ℕ) (more rs rs′ : List Record) : Type 0 where
-  pub among : n ≤ length more
-  pub grown : rs′ ≡ reverse (take n more) ++ rs
-
--- a batch's answer, where the file was taken in after the plain list rs, which then was rs′
+-- a batch's answer, where the file was taken in after the plain list rs, which then was rs′: by so many of the file's records, in order
 pub record Answered (rs : List Record) (t : Tables) (file : List ℕ) (rs′ : List Record) (a : BatchAnswer) : Type 0 where
   pub refusal : a .refusal ≡ numberOf (refusedBy (capacityOf t) rs file)
-  pub taken : GrownBy (a .taken) (contentsOf file .records) rs rs′
+  pub among : a .taken ≤ length (contentsOf file .records)
+  pub grown : rs′ ≡ reverse (take (a .taken) (contentsOf file .records)) ++ rs
 
 pub record Demand2 : Type 0 where
   pub holds : (cs : List Call) (c : Counts) (t : Tables) → LeftBy cs c t → Holds (plainAfter cs) c t

@@ -1,27 +1,20 @@
 -- Document 01, "Traces": demand 3, a single claim about a list of calls. To be read beside that section.
 -- The plain list of the calls, and with it the accepted and the kept events, is computed from the calls alone.
-use Prim.Native.Nat.{ℕ, _+_, _≤_, _<_}
+use Prim.Native.Nat.{ℕ, _<_}
 use mathlib.Core.Path.{_≡_}
 use mathlib.Core.Logic.{_⊎_, _↔_}
-use mathlib.Core.Bool.{true}
 use mathlib.Core.List.{List, [], _∷_, _++_}
-use lib.ListN.{length, getD}
-use lib.Dec.{leb, ltb}
-use Rattle.refusals.specs.declared.Refusal.the-variants.{Undeclared, BufferShort}
-use Rattle.refusals.specs.Refusals.{Check, check, firstOf, numberOf}
-use Rattle.rows.specs.declared.Counts.{Counts}
+use lib.ListN.{getD}
+use Rattle.refusals.specs.Refusals.{Check, firstOf, numberOf}
 use Rattle.record.specs.declared.Event.{Event}
 use Rattle.record.specs.declared.Record.{Record}
-use Rattle.rules.specs.Trail.{Tables, capacityOf, trailOf}
-use Rattle.rules.specs.Sound.{isSound}
 use Rattle.rules.specs.Paths.{PathBy, PathFrom, Gains}
 use Rattle.rules.specs.History.{Item, dropped, accepted, Reached, IntakeTime}
 use Rattle.rules.specs.PlainList.{worked, itemsOf}
-use Rattle.rules.specs.Backward.{BackwardTrace}
-use Rattle.rules.specs.Forward.{ForwardTrace}
-use Rattle.rules.specs.Calls.{Call, batch, backward, forward, heldAfter, plainAfter}
-use Rattle.closure.specs.ByRelations.{CountOf, IsBackwardTrace, IsForwardTrace}
-use Rattle.agreement.specs.Left.{LeftBy}
+use Rattle.rules.specs.Backward.{traceRefusals, BackwardTrace, backwardOf}
+use Rattle.rules.specs.Forward.{ForwardTrace, forwardOf}
+use Rattle.rules.specs.Calls.{Call, batch, backward, forward, heldAfter, AllLent, plainAfter}
+use Rattle.closure.specs.ByRelations.{CountOf}
 
 -- of n entities, each byte is 1 if M holds of it and else 0, and the count is of those that M holds of
 pub record MarksAre (n : ℕ) (M : ℕ → Type 0) (marks : List ℕ) (count : ℕ) : Type 0 where
@@ -40,51 +33,32 @@ pub record ForwardAgrees (rs : List Record) (u time : ℕ) (f : ForwardTrace) : 
   pub intake : IntakeTime u time (itemsOf rs) (f .answer .intake)
   pub never-less : (y : ℕ) → PathFrom (accepted (itemsOf rs)) time u y → (y < worked rs .counts .entities) × (getD (f .marks) y 0 ≡ 1)
 
--- "In such a list a trace is refused only with 5 or 14": if, by the plain list, the entity is not declared, or a buffer is shorter
--- than its count
-unfoldable pub traceRefusals : List Record → ℕ → List ℕ → List ℕ → List Check
-traceRefusals rs x work marks =
-    check (leb (worked rs .counts .entities) x) Undeclared
-    ∷ check (ltb (length work) (worked rs .counts .versions)) BufferShort
-    ∷ check (ltb (length marks) (worked rs .counts .entities)) BufferShort
-    ∷ []
-
--- a trace returns the number of the first that holds, and if none does, it agrees
+-- a trace returns the number of the first of these refusals that holds, and if none does, it agrees
 pub record TraceAgrees (refusals : List Check) (number : ℕ) (Claim : Type 0) : Type 0 where
   pub refusal : number ≡ numberOf (firstOf refusals)
   pub agrees : number ≡ 0 → Claim
 
--- so for whatever a trace lent these returns and leaves
-abbrev pub BackwardTracesAgree : List Record → Counts → Tables → ℕ → ℕ → List ℕ → List ℕ → Type 0
-BackwardTracesAgree rs c t v time work marks =
-    (b : BackwardTrace) → IsBackwardTrace c t v time work marks b
-    → TraceAgrees (traceRefusals rs v work marks) (b .answer .refusal) (BackwardAgrees rs v time b)
+-- "In such a list a trace is refused only with 5 or 14": if, by the plain list, the entity is not declared, or a buffer is shorter
+-- than its count. b and f are what a backward and a forward trace lent these buffers returned and left
+abbrev pub BackwardClaim : List Record → ℕ → ℕ → List ℕ → List ℕ → BackwardTrace → Type 0
+BackwardClaim rs v time work marks b = TraceAgrees (traceRefusals (worked rs .counts) v work marks) (b .answer .refusal) (BackwardAgrees rs v time b)
 
-abbrev pub ForwardTracesAgree : List Record → Counts → Tables → ℕ → ℕ → List ℕ → List ℕ → Type 0
-ForwardTracesAgree rs c t u time work marks =
-    (f : ForwardTrace) → IsForwardTrace c t u time work marks f
-    → TraceAgrees (traceRefusals rs u work marks) (f .answer .refusal) (ForwardAgrees rs u time f)
-
--- every event by which an entity gained an ancestor is a kept intake of it: by a dropped one none did
-abbrev pub GainsAreKept : List Item → Type 0
-GainsAreKept hs = (later earlier : List Item) (e : Event) → hs ≡ later ++ (dropped e ∷ earlier) → Gains (accepted earlier) e → ⊥
-
--- counts c and tables t agree with the plain list rs: so do traces with any entity, time and buffers
-pub record Agrees (rs : List Record) (c : Counts) (t : Tables) : Type 0 where
-  pub sound : isSound (capacityOf t) (trailOf c t) ≡ true
-  pub backward : (v time : ℕ) (work marks : List ℕ) → BackwardTracesAgree rs c t v time work marks
-  pub forward : (u time : ℕ) (work marks : List ℕ) → ForwardTracesAgree rs c t u time work marks
-  pub gains : GainsAreKept (itemsOf rs)
-  -- "Over a trail grown from fresh, versions ≤ entities + edges."
-  pub versions : c .versions ≤ c .entities + c .edges
+abbrev pub ForwardClaim : List Record → ℕ → ℕ → List ℕ → List ℕ → ForwardTrace → Type 0
+ForwardClaim rs u time work marks f = TraceAgrees (traceRefusals (worked rs .counts) u work marks) (f .answer .refusal) (ForwardAgrees rs u time f)
 
 -- each trace of the list agrees with the records taken in before it
 abbrev pub TracesAgree : List Call → Type 0
 TracesAgree [] = Unit {0}
 TracesAgree (batch t file ∷ cs) = TracesAgree cs
-TracesAgree (backward t v time work marks ∷ cs) = BackwardTracesAgree (plainAfter cs) (heldAfter cs .counts) t v time work marks × TracesAgree cs
-TracesAgree (forward t u time work marks ∷ cs) = ForwardTracesAgree (plainAfter cs) (heldAfter cs .counts) t u time work marks × TracesAgree cs
+TracesAgree (backward t v time work marks ∷ cs) =
+    BackwardClaim (plainAfter cs) v time work marks (backwardOf (heldAfter cs .counts) t v time work marks) × TracesAgree cs
+TracesAgree (forward t u time work marks ∷ cs) =
+    ForwardClaim (plainAfter cs) u time work marks (forwardOf (heldAfter cs .counts) t u time work marks) × TracesAgree cs
+
+-- every event by which an entity gained an ancestor is a kept intake of it: by a dropped one none did
+abbrev pub GainsAreKept : List Item → Type 0
+GainsAreKept hs = (later earlier : List Item) (e : Event) → hs ≡ later ++ (dropped e ∷ earlier) → Gains (accepted earlier) e → ⊥
 
 -- "All this is a single claim about the list and not one for each call."
 abbrev pub Demand3 : Type 0
-Demand3 = (cs : List Call) (c : Counts) (t : Tables) → LeftBy cs c t → TracesAgree cs × Agrees (plainAfter cs) c t
+Demand3 = (cs : List Call) → AllLent cs → TracesAgree cs × GainsAreKept (itemsOf (plainAfter cs))

@@ -4,8 +4,7 @@ use mathlib.Core.Path.{_≡_}
 use mathlib.Core.List.{List, [], _∷_}
 use Rattle.rows.specs.declared.Counts.{Counts}
 use Rattle.rules.specs.Trail.{Tables, freshCounts}
-use Rattle.rules.specs.Batch.{batchOf}
-use Rattle.rules.specs.Calls.{Call, batch, backward, forward, held, heldAfter, Lent, AllLent}
+use Rattle.rules.specs.Calls.{Call, backward, forward, held, heldAfter, Lent, AllLent}
 
 -- c are the counts that the calls cs leave, each lent what the one before left, and t holds the rows in use that they leave
 pub record LeftBy (cs : List Call) (c : Counts) (t : Tables) : Type 0 where
@@ -13,12 +12,11 @@ pub record LeftBy (cs : List Call) (c : Counts) (t : Tables) : Type 0 where
   pub counts : c ≡ heldAfter cs .counts
   pub rows : Lent (heldAfter cs) t
 
--- For what grows from a fresh trail there are such calls: none at all leave the fresh one, and each call goes on from what it is lent
+-- For what grows from a fresh trail there are such calls: none at all leave the fresh one, and each call goes on from what it is lent;
+-- a batch does by its promise
 pub record Leaving : Type 0 where
   -- "All five zero is a fresh trail, whatever the tables hold."
   pub fresh : (t : Tables) → LeftBy [] freshCounts t
-  pub batch : (cs : List Call) (c : Counts) (t : Tables) → LeftBy cs c t → (file : List ℕ)
-      → LeftBy (batch t file ∷ cs) (batchOf c t file .counts) (batchOf c t file .tables)
   -- a trace leaves what it was lent
   pub backward : (cs : List Call) (c : Counts) (t : Tables) → LeftBy cs c t → (v time : ℕ) (work marks : List ℕ)
       → LeftBy (backward t v time work marks ∷ cs) c t

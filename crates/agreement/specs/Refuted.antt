@@ -14,8 +14,8 @@ use Rattle.record.specs.declared.Event.{Event}
 use Rattle.record.specs.declared.Record.{Record}
 use Rattle.rules.specs.declared.BatchAnswer.{BatchAnswer}
 use Rattle.rules.specs.Trail.{Tables, trailOf}
-use Rattle.rules.specs.Batch.{Batched, contentsOf}
-use Rattle.rules.specs.Backward.{BackwardTrace}
+use Rattle.rules.specs.Batch.{Batched}
+use Rattle.rules.specs.Backward.{BackwardTrace, backwardOf}
 use Rattle.rules.specs.Forward.{ForwardTrace}
 use Rattle.rules.specs.KeptLog.{KeptLog}
 use Rattle.rules.specs.History.{Item, accepted, keptEvents}
@@ -23,8 +23,8 @@ use Rattle.rules.specs.PlainList.{worked, itemsOf}
 use Rattle.rules.specs.Calls.{Call, batch, plainAfter}
 use Rattle.rules.specs.Worked as worked-trail
 use Rattle.closure.specs.Same.{SameRows}
-use Rattle.agreement.specs.Demand2.{Holds, GrownBy, Answered}
-use Rattle.agreement.specs.Demand3.{BackwardAgrees, ForwardAgrees, traceRefusals, TraceAgrees, GainsAreKept, Agrees}
+use Rattle.agreement.specs.Demand2.{Holds, Answered}
+use Rattle.agreement.specs.Demand3.{BackwardAgrees, ForwardAgrees, BackwardClaim, ForwardClaim, GainsAreKept}
 use Rattle.agreement.specs.RoundTrip.{TakenAgain, LogAgrees}
 
 -- the same bytes for n entities
@@ -38,7 +38,8 @@ pub record Determined : Type 0 where
   pub forward : (rs : List Record) (u time : ℕ) (f f′ : ForwardTrace) → ForwardAgrees rs u time f → ForwardAgrees rs u time f′
       → SameMarks (worked rs .counts .entities) (f .marks) (f′ .marks) × (f .answer .count ≡ f′ .answer .count) × (f .answer .intake ≡ f′ .answer .intake)
   pub holds : (rs : List Record) (c c′ : Counts) (t t′ : Tables) → Holds rs c t → Holds rs c′ t′ → (c ≡ c′) × SameRows (trailOf c t) (trailOf c′ t′)
-  pub taken : (n n′ : ℕ) (more rs rs′ : List Record) → GrownBy n more rs rs′ → GrownBy n′ more rs rs′ → n ≡ n′
+  pub answer : (rs : List Record) (t : Tables) (file : List ℕ) (rs′ : List Record) (a a′ : BatchAnswer) → Answered rs t file rs′ a
+      → Answered rs t file rs′ a′ → a ≡ a′
 
 -- The worked list of calls: one batch of the worked file into a fresh trail, with n edge rows lent; and its plain list
 abbrev pub workedCalls : ℕ → List Call
@@ -51,31 +52,20 @@ workedPlain = plainAfter (workedCalls 8)
 abbrev pub longerPlain : List Record
 longerPlain = plainAfter (batch (worked-trail.room 8) (worked-trail.file 1 ++ (2 ∷ 0 ∷ 1 ∷ 0 ∷ 3 ∷ 0 ∷ 0 ∷ 0 ∷ 8 ∷ 0 ∷ 0 ∷ 0 ∷ [])) ∷ [])
 
--- The claims, of any answer to a trace lent these buffers
-
-abbrev pub BackwardClaim : List Record → ℕ → ℕ → List ℕ → List ℕ → BackwardTrace → Type 0
-BackwardClaim rs v time work marks b = TraceAgrees (traceRefusals rs v work marks) (b .answer .refusal) (BackwardAgrees rs v time b)
-
-abbrev pub ForwardClaim : List Record → ℕ → ℕ → List ℕ → List ℕ → ForwardTrace → Type 0
-ForwardClaim rs u time work marks f = TraceAgrees (traceRefusals rs u work marks) (f .answer .refusal) (ForwardAgrees rs u time f)
-
--- a batch, lent n edge rows, answers a; it says that it took in k of the 11 records
-abbrev pub AnswerClaim : ℕ → BatchAnswer → Type 0
-AnswerClaim n a = Answered [] (worked-trail.room n) (worked-trail.file 1) (plainAfter (workedCalls n)) a
-
-abbrev pub TakenClaim : ℕ → ℕ → Type 0
-TakenClaim n k = GrownBy k (contentsOf (worked-trail.file 1) .records) [] (plainAfter (workedCalls n))
-
 abbrev pub TakenAgainClaim : Batched → Type 0
 TakenAgainClaim b = TakenAgain (worked-trail.batch 8 .counts) (worked-trail.batch 8 .tables) b
 
--- The claim holds of no wrong answer: of a trace that is not refused; of counts and tables
+-- The claim holds of no wrong answer: of a trace that is not refused; of the batch of the worked file, lent n edge rows; of counts and
+-- tables
 
 abbrev pub NoBackward : List Record → ℕ → ℕ → (BackwardTrace → Type 0) → Type 0
 NoBackward rs v time Wrong = (work marks : List ℕ) (b : BackwardTrace) → b .answer .refusal ≡ 0 → Wrong b → BackwardClaim rs v time work marks b → ⊥
 
 abbrev pub NoForward : List Record → ℕ → ℕ → (ForwardTrace → Type 0) → Type 0
 NoForward rs u time Wrong = (work marks : List ℕ) (f : ForwardTrace) → f .answer .refusal ≡ 0 → Wrong f → ForwardClaim rs u time work marks f → ⊥
+
+abbrev pub NoAnswer : ℕ → (BatchAnswer → Type 0) → Type 0
+NoAnswer n Wrong = (a : BatchAnswer) → Wrong a → Answered [] (worked-trail.room n) (worked-trail.file 1) (plainAfter (workedCalls n)) a → ⊥
 
 abbrev pub NoTables : (Counts → Tables → Type 0) → Type 0
 NoTables Wrong = (c : Counts) (t : Tables) → Wrong c t → Holds workedPlain c t → ⊥
@@ -128,7 +118,8 @@ pub record Refuted : Type 0 where
       → ForwardClaim workedPlain 3 0 work marks f → ⊥
   -- "a trail that keeps no edge (demands 2 and 3)"; time 6 dropped
   pub no-edge : NoTables (λ c t. c .edges ≡ 0)
-  pub no-edge-traced : (c : Counts) (t : Tables) → c .edges ≡ 0 → Agrees workedPlain c t → ⊥
+  pub no-edge-traced : (c : Counts) (t : Tables) (work marks : List ℕ) → c .edges ≡ 0 → 5 ≤ length work → 4 ≤ length marks
+      → BackwardClaim workedPlain 2 6 work marks (backwardOf c t 2 6 work marks) → ⊥
   pub time-6-dropped : NoTables (λ c t. c .edges ≡ 3)
   -- every version widened; a new version for every kept event
   pub widen-always : NoTables (λ c t. c .versions ≡ 4)
@@ -143,21 +134,21 @@ pub record Refuted : Type 0 where
   pub end-not-widened : NoTables (λ c t. versionAt (t .versions) 2 .end ≡ 2)
   pub latest-not-new : NoTables (λ c t. entityAt (t .entities) 1 .latest .0 ≡ 1)
   -- "a call refusing all files"; the first record alone
-  pub all-refused : TakenClaim 8 0 → ⊥
-  pub first-record-taken : TakenClaim 8 1 → ⊥
+  pub all-refused : NoAnswer 8 (λ a. a .taken ≡ 0)
+  pub first-record-taken : NoAnswer 8 (λ a. a .taken ≡ 1)
   -- "no row left" while a row is left: the event at 6 refused with eight edge rows; P10, the event at 7 with four
-  pub no-row-left : TakenClaim 8 9 → ⊥
-  pub full-before-repeat : TakenClaim 4 10 → ⊥
+  pub no-row-left : NoAnswer 8 (λ a. a .taken ≡ 9)
+  pub full-before-repeat : NoAnswer 4 (λ a. a .taken ≡ 10)
   -- another number than 0 where all is taken in, and than 12 in P11
-  pub refused-for-nothing : (a : BatchAnswer) → (a .refusal ≡ 0 → ⊥) → AnswerClaim 8 a → ⊥
-  pub refused-for-another : (a : BatchAnswer) → (a .refusal ≡ refusalNo EdgesFull → ⊥) → AnswerClaim 3 a → ⊥
+  pub refused-for-nothing : NoAnswer 8 (λ a. a .refusal ≡ 0 → ⊥)
+  pub refused-for-another : NoAnswer 3 (λ a. a .refusal ≡ refusalNo EdgesFull → ⊥)
   -- more records than the file has
-  pub more-than-the-file : TakenClaim 8 12 → ⊥
+  pub more-than-the-file : NoAnswer 8 (λ a. a .taken ≡ 12)
   -- The same events accepted and none kept at 6, as when no edge is kept: 2 gains 3 by it
   pub gain-dropped : (hs : List Item) → accepted hs ≡ accepted (itemsOf workedPlain) → ((e : Event) → List·Memᴰ e (keptEvents hs) → e .time ≡ 6 → ⊥)
       → GainsAreKept hs → ⊥
   -- a version for each accepted event, besides the entities'
-  pub version-each-event : (c : Counts) (t : Tables) → c .entities ≡ 4 → c .edges ≡ 4 → c .versions ≡ 11 → Agrees workedPlain c t → ⊥
+  pub version-each-event : (c : Counts) (t : Tables) → c .entities ≡ 4 → c .edges ≡ 4 → c .versions ≡ 11 → Holds workedPlain c t → ⊥
   -- the writer refused though the output has the 104 bytes of the log
   pub log-always-refused : (c : Counts) (t : Tables) (out : List ℕ) (k : KeptLog) → 104 ≤ length out → (k .answer .refusal ≡ 0 → ⊥)
       → LogAgrees (workedCalls 8) c t out k → ⊥

@@ -1,6 +1,6 @@
 -- Demand 2's round trip: the kept log, taken into a fresh trail with as many rows, yields the same entities, kept events and
 -- traces. Document 01: "Version numbers may differ after it is taken in again; work buffers are not compared then."
-use Prim.Native.Nat.{ℕ, _+_, _≤_, _<_}
+use Prim.Native.Nat.{ℕ, _+_, _<_}
 use mathlib.Core.Path.{_≡_}
 use mathlib.Core.List.{List, [], _∷_}
 use lib.ListN.{length, take}
@@ -10,14 +10,13 @@ use Rattle.refusals.specs.Refusals.{Check, check, firstOf, numberOf}
 use Rattle.rows.specs.declared.Counts.{Counts}
 use Rattle.record.specs.declared.Record.{Record}
 use Rattle.record.specs.Layout.{Bytes}
-use Rattle.rules.specs.Trail.{Tables, Capacity, capacityOf, Trail, trailOf, freshCounts}
+use Rattle.rules.specs.Trail.{Tables, capacityOf, Trail, trailOf, freshCounts}
 use Rattle.rules.specs.Batch.{Batched, batchOf}
-use Rattle.rules.specs.Backward.{BackwardTrace}
-use Rattle.rules.specs.Forward.{ForwardTrace}
+use Rattle.rules.specs.Backward.{backwardOf}
+use Rattle.rules.specs.Forward.{forwardOf}
 use Rattle.rules.specs.KeptLog.{eventRecord, KeptLog, keptLogOf}
 use Rattle.rules.specs.PlainList.{worked}
-use Rattle.rules.specs.Calls.{Call, batch, backward, forward, plainAfter}
-use Rattle.closure.specs.ByRelations.{IsBackwardTrace, IsForwardTrace}
+use Rattle.rules.specs.Calls.{Call, batch, backward, forward, EnoughRows, plainAfter}
 use Rattle.kept_log.specs.Written.{logLength}
 use Rattle.agreement.specs.Left.{LeftBy}
 
@@ -28,12 +27,6 @@ AllBytes (batch t file ∷ cs) = Bytes file × AllBytes cs
 AllBytes (backward t v time work marks ∷ cs) = AllBytes cs
 AllBytes (forward t u time work marks ∷ cs) = AllBytes cs
 
--- with as many rows as are in use
-pub record EnoughRows (cap : Capacity) (c : Counts) : Type 0 where
-  pub entities : c .entities ≤ cap .entities
-  pub versions : c .versions ≤ cap .versions
-  pub edges : c .edges ≤ cap .edges
-
 -- the same entities and kept events: those of U are those of T
 pub record SameTrail (T U : Trail) : Type 0 where
   pub entities : U .counts .entities ≡ T .counts .entities
@@ -43,10 +36,10 @@ pub record SameTrail (T U : Trail) : Type 0 where
 
 -- the same traces and kept log, whatever the calls are lent besides: the numbers that they return, the mark buffer, the output
 pub record SameCalls (c : Counts) (t : Tables) (c′ : Counts) (t′ : Tables) : Type 0 where
-  pub backward : (v time : ℕ) (work marks : List ℕ) (b b′ : BackwardTrace) → IsBackwardTrace c t v time work marks b
-      → IsBackwardTrace c′ t′ v time work marks b′ → (b′ .answer ≡ b .answer) × (b′ .marks ≡ b .marks)
-  pub forward : (u time : ℕ) (work marks : List ℕ) (f f′ : ForwardTrace) → IsForwardTrace c t u time work marks f
-      → IsForwardTrace c′ t′ u time work marks f′ → (f′ .answer ≡ f .answer) × (f′ .marks ≡ f .marks)
+  pub backward-answer : (v time : ℕ) (work marks : List ℕ) → backwardOf c′ t′ v time work marks .answer ≡ backwardOf c t v time work marks .answer
+  pub backward-marks : (v time : ℕ) (work marks : List ℕ) → backwardOf c′ t′ v time work marks .marks ≡ backwardOf c t v time work marks .marks
+  pub forward-answer : (u time : ℕ) (work marks : List ℕ) → forwardOf c′ t′ u time work marks .answer ≡ forwardOf c t u time work marks .answer
+  pub forward-marks : (u time : ℕ) (work marks : List ℕ) → forwardOf c′ t′ u time work marks .marks ≡ forwardOf c t u time work marks .marks
   pub log : (out : List ℕ) → keptLogOf c′ t′ out ≡ keptLogOf c t out
 
 -- the batch takes in every record of the log, and the trail that it leaves is the same

@@ -27,11 +27,9 @@ module _ (n : ℕ) (m lent : List ℕ) (l : length m ≡ n) where
   module _ (M : ℕ → Type 0) (bits : Bits m) (is : (k : ℕ) → k < n → Marked m k ↔ M k) (inside : (k : ℕ) → M k → k < n) where
     pub marks-left : n ≤ length lent → MarksLeft n M lent (overlaid m lent)
     marks-left room = record {
-      room = room;
       same-length = simp (length-append, length-drop) (omega arith);
       bits = λ k h. subst (λ (y : ℕ). (y ≡ 0) ⊎ (y ≡ 1)) (sym (overlaid-at k h)) (bits k);
-      marked = λ k h. (λ o. is k h .0 (sym (overlaid-at k h) ∙ o), λ d. overlaid-at k h ∙ is k h .1 d);
-      inside = inside;
+      marked = λ k. (λ o. is k (o .0) .0 (sym (overlaid-at k (o .0)) ∙ o .1), λ d. let h = inside k d in (h, overlaid-at k h ∙ is k h .1 d));
       untouched = overlaid-past;
     }
 
@@ -48,9 +46,9 @@ pub marks-one : {n : ℕ} {M : ℕ → Type 0} {lent a b : List ℕ} → MarksLe
 marks-one {n} {M} {lent} {a} {b} p q = ext-getD 0 a b (p .same-length ∙ sym (q .same-length)) (λ k _. go k (decLt k n))
   where
     by : (k : ℕ) → k < n → (getD a k 0 ≡ 0) ⊎ (getD a k 0 ≡ 1) → (getD b k 0 ≡ 0) ⊎ (getD b k 0 ≡ 1) → getD a k 0 ≡ getD b k 0
-    by k l (inr x) y = x ∙ sym (q .marked k l .1 (p .marked k l .0 x))
+    by k l (inr x) y = x ∙ sym (q .marked k .1 (p .marked k .0 (l, x)) .1)
     by k l (inl x) (inl y) = x ∙ sym y
-    by k l (inl x) (inr y) = p .marked k l .1 (q .marked k l .0 y) ∙ sym y
+    by k l (inl x) (inr y) = p .marked k .1 (q .marked k .0 (l, y)) .1 ∙ sym y
 
     go : (k : ℕ) → Dec (k < n) → getD a k 0 ≡ getD b k 0
     go k (yes l) = by k l (p .bits k l) (q .bits k l)

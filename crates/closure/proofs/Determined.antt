@@ -10,8 +10,9 @@ use Rattle.rules.specs.Backward.{BackwardMarks, BackwardTrace}
 use Rattle.rules.specs.Forward.{ForwardMarks, ForwardTrace}
 use Rattle.rules.proofs.Start.{start-one}
 use Rattle.rules.proofs.Intake.{intake-one}
-use Rattle.closure.specs.ByRelations.{Marking, BackwardTraced, ForwardTraced, IsBackwardTrace, IsForwardTrace}
+use Rattle.closure.specs.ByRelations.{Marking, IsBackwardTrace, IsForwardTrace}
 use Rattle.closure.proofs.Marking.{marking-one}
+use Rattle.closure.proofs.Traced.{BackwardTraced, ForwardTraced}
 
 module _ (c : Counts) (t : Tables) (x time : ℕ) (work marks : List ℕ) where
   module _ (a b : BackwardTrace) (p : IsBackwardTrace c t x time work marks a) (q : IsBackwardTrace c t x time work marks b) where
@@ -20,8 +21,8 @@ module _ (c : Counts) (t : Tables) (x time : ℕ) (work marks : List ℕ) where
 
     backward-traced-one : BackwardTraced (trailOf c t) x time work marks a → BackwardTraced (trailOf c t) x time work marks b → a ≡ b
     backward-traced-one f g =
-        let m = subst (λ s. Marking (trailOf c t) (BackwardMarks (trailOf c t) s time) work marks (a .work) (a .marks) (a .answer .count)) (start-one (f .is-start) (g .is-start)) (f .marking) in
-        let e = marking-one m (g .marking) in
+        let m = subst (λ s. Marking (trailOf c t) (BackwardMarks (trailOf c t) s time) work marks (a .work) (a .marks) (a .answer .count)) (start-one (f .1) (g .1)) (f .2) in
+        let e = marking-one m (g .2) in
         λ i. record { answer = record { refusal = backward-number i; count = e .2 i }; work = e .0 i; marks = e .1 i }
 
     pub backward-one : a ≡ b
@@ -40,10 +41,10 @@ module _ (c : Counts) (t : Tables) (x time : ℕ) (work marks : List ℕ) where
 
     forward-traced-one : ForwardTraced (trailOf c t) x time work marks a → ForwardTraced (trailOf c t) x time work marks b → a ≡ b
     forward-traced-one f g =
-        let s = start-one (f .is-start) (g .is-start) in
-        let m = subst (λ z. Marking (trailOf c t) (ForwardMarks (trailOf c t) z) work marks (a .work) (a .marks) (a .answer .count)) s (f .marking) in
-        let e = marking-one m (g .marking) in
-        let j = intake-one (trailOf c t) (g .start) time (subst (λ z. IsIntake (trailOf c t) z time (a .answer .intake)) s (f .intake)) (g .intake) in
+        let s = start-one (f .1) (g .1) in
+        let m = subst (λ z. Marking (trailOf c t) (ForwardMarks (trailOf c t) z) work marks (a .work) (a .marks) (a .answer .count)) s (f .3) in
+        let e = marking-one m (g .3) in
+        let j = intake-one (trailOf c t) (g .0) time (subst (λ z. IsIntake (trailOf c t) z time (a .answer .intake)) s (f .2)) (g .2) in
         λ i. record { answer = record { refusal = forward-number i; count = e .2 i; intake = j i }; work = e .0 i; marks = e .1 i }
 
     pub forward-one : a ≡ b

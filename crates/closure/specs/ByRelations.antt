@@ -15,13 +15,12 @@ use Rattle.rules.specs.Forward.{ForwardMarks, ForwardTrace, forwardTrace, forwa
 
 -- What both traces share
 
--- a buffer as lent and as left, with marks for n numbers in it: 1 for each that M holds of, else 0, and every other byte as it was
+-- a buffer as lent and as left, with marks for n numbers in it: 1 for each that M holds of, else 0, and every other byte as it was;
+-- M holds of no other number
 pub record MarksLeft (n : ℕ) (M : ℕ → Type 0) (lent left : List ℕ) : Type 0 where
-  pub room : n ≤ length lent
   pub same-length : length left ≡ length lent
   pub bits : (k : ℕ) → k < n → (getD left k 0 ≡ 0) ⊎ (getD left k 0 ≡ 1)
-  pub marked : (k : ℕ) → k < n → (getD left k 0 ≡ 1) ↔ M k
-  pub inside : (k : ℕ) → M k → k < n
+  pub marked : (k : ℕ) → ((k < n) × (getD left k 0 ≡ 1)) ↔ M k
   -- "Bytes past the counts are untouched."
   pub untouched : (k : ℕ) → n ≤ k → getD left k 0 ≡ getD lent k 0
 
@@ -49,35 +48,24 @@ pub record Marking (T : Trail) (M : ℕ → Type 0) (work marks work′ marks′
   pub entities : MarksLeft (T .counts .entities) (HasMarkedVersion T M) marks marks′
   pub counted : CountOf (HasMarkedVersion T M) count
 
--- A trace that is not refused: there is a start version, and the marks are those from it
-
-pub record BackwardTraced (T : Trail) (v time : ℕ) (work marks : List ℕ) (b : BackwardTrace) : Type 0 where
-  pub start : ℕ
-  pub is-start : StartVersion T v time start
-  pub marking : Marking T (BackwardMarks T start time) work marks (b .work) (b .marks) (b .answer .count)
-
-pub record ForwardTraced (T : Trail) (u time : ℕ) (work marks : List ℕ) (f : ForwardTrace) : Type 0 where
-  pub start : ℕ
-  pub is-start : StartVersion T u time start
-  pub marking : Marking T (ForwardMarks T start) work marks (f .work) (f .marks) (f .answer .count)
-  pub intake : IsIntake T start time (f .answer .intake)
-
 -- The calls
 
 -- b is what a backward call on these returns and leaves. "A trace checks 16, 5, 14." "Each refusal is given when its condition is the
 -- first to hold in this order, and never otherwise"; the number is "0 if none". "A refused trace .. returns count, intake and length 0
--- and writes nothing."
+-- and writes nothing." Otherwise there is a start version s, and the marks are those from it.
 pub record IsBackwardTrace (c : Counts) (t : Tables) (v time : ℕ) (work marks : List ℕ) (b : BackwardTrace) : Type 0 where
   pub refusal : b .answer .refusal ≡ numberOf (firstOf (traceChecks c t v work marks))
   pub refused : (b .answer .refusal ≡ 0 → ⊥) → b ≡ backwardTrace (record { refusal = b .answer .refusal; count = 0 }) work marks
-  pub traced : b .answer .refusal ≡ 0 → BackwardTraced (trailOf c t) v time work marks b
+  pub traced : b .answer .refusal ≡ 0 → (s : ℕ) × StartVersion (trailOf c t) v time s
+      × Marking (trailOf c t) (BackwardMarks (trailOf c t) s time) work marks (b .work) (b .marks) (b .answer .count)
 
 -- f is what a forward call on these returns and leaves
 pub record IsForwardTrace (c : Counts) (t : Tables) (u time : ℕ) (work marks : List ℕ) (f : ForwardTrace) : Type 0 where
   pub refusal : f .answer .refusal ≡ numberOf (firstOf (traceChecks c t u work marks))
   pub refused : (f .answer .refusal ≡ 0 → ⊥)
       → f ≡ forwardTrace (record { refusal = f .answer .refusal; count = 0; intake = 0 }) work marks
-  pub traced : f .answer .refusal ≡ 0 → ForwardTraced (trailOf c t) u time work marks f
+  pub traced : f .answer .refusal ≡ 0 → (s : ℕ) × StartVersion (trailOf c t) u time s × IsIntake (trailOf c t) s time (f .answer .intake)
+      × Marking (trailOf c t) (ForwardMarks (trailOf c t) s) work marks (f .work) (f .marks) (f .answer .count)
 
 -- the calls as computed are these, and nothing else is
 pub record TracesByRelations : Type 0 where

@@ -53,13 +53,15 @@ unfoldable pub backwardEntities : Trail → ℕ → ℕ → List ℕ
 backwardEntities T v t = marksBelow (T .version) (backwardWork T v t) (T .counts .versions) (T .counts .entities)
 
 -- "A trace checks 16, 5, 14." "14. Mark or work buffer shorter than its count."
-unfoldable pub traceChecks : Counts → Tables → ℕ → List ℕ → List ℕ → List Check
-traceChecks c t x work marks =
-    check (not (isSound (capacityOf t) (trailOf c t))) Unsound
-    ∷ check (leb (c .entities) x) Undeclared
+abbrev pub traceRefusals : Counts → ℕ → List ℕ → List ℕ → List Check
+traceRefusals c x work marks =
+    check (leb (c .entities) x) Undeclared
     ∷ check (ltb (length work) (c .versions)) BufferShort
     ∷ check (ltb (length marks) (c .entities)) BufferShort
     ∷ []
+
+unfoldable pub traceChecks : Counts → Tables → ℕ → List ℕ → List ℕ → List Check
+traceChecks c t x work marks = check (not (isSound (capacityOf t) (trailOf c t))) Unsound ∷ traceRefusals c x work marks
 
 -- The call: its answer, and the buffers that it leaves. "A refused trace .. returns count, intake and length 0 and
 -- writes nothing."

@@ -1,13 +1,12 @@
 -- Document 01, "Traces": "a list of calls, each a batch, a backward or a forward trace, refused ones among them." The last
 -- call stands first.
-use Prim.Native.Nat.{ℕ, _*_, _≤_, _<_}
+use Prim.Native.Nat.{ℕ, _≤_, _<_}
 use mathlib.Core.Path.{_≡_}
 use mathlib.Core.List.{List, [], _∷_}
-use lib.ListN.{length}
 use Rattle.rows.specs.declared.Counts.{Counts}
-use Rattle.rows.specs.Rows.{entityWidth, versionWidth, edgeWidth, entityAt, versionAt, edgeAt}
+use Rattle.rows.specs.Rows.{entityAt, versionAt, edgeAt}
 use Rattle.record.specs.declared.Record.{Record}
-use Rattle.rules.specs.Trail.{Tables, tables, capacityOf, freshCounts}
+use Rattle.rules.specs.Trail.{Tables, tables, Capacity, capacityOf, freshCounts}
 use Rattle.rules.specs.Batch.{batchOf}
 use Rattle.rules.specs.PlainList.{addedBy}
 
@@ -36,11 +35,15 @@ heldAfter (batch t file ∷ cs) = held (batchOf (heldAfter cs .counts) t file .c
 heldAfter (backward t v time work marks ∷ cs) = held (heldAfter cs .counts) t
 heldAfter (forward t u time work marks ∷ cs) = held (heldAfter cs .counts) t
 
+-- at least as many rows as are in use
+pub record EnoughRows (cap : Capacity) (c : Counts) : Type 0 where
+  pub entities : c .entities ≤ cap .entities
+  pub versions : c .versions ≤ cap .versions
+  pub edges : c .edges ≤ cap .edges
+
 -- "each call is lent the counts and rows in use as the call before left them, in tables of any length"
 pub record Lent (h : Held) (t : Tables) : Type 0 where
-  pub entity-room : entityWidth * h .counts .entities ≤ length (t .entities)
-  pub version-room : versionWidth * h .counts .versions ≤ length (t .versions)
-  pub edge-room : edgeWidth * h .counts .edges ≤ length (t .edges)
+  pub room : EnoughRows (capacityOf t) (h .counts)
   pub entity-rows : (k : ℕ) → k < h .counts .entities → entityAt (t .entities) k ≡ entityAt (h .tables .entities) k
   pub version-rows : (k : ℕ) → k < h .counts .versions → versionAt (t .versions) k ≡ versionAt (h .tables .versions) k
   pub edge-rows : (k : ℕ) → k < h .counts .edges → edgeAt (t .edges) k ≡ edgeAt (h .tables .edges) k
