@@ -19,7 +19,6 @@ pub mod Relogged
 pub mod Again
 pub mod TracesAgain
 pub mod SameCalls
-pub mod Times
 pub mod TakenAll
 pub mod Log
 pub mod RoundTrip

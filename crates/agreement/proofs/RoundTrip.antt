@@ -9,7 +9,7 @@ use lib.Dec.{ltb}
 use Rattle.refusals.specs.declared.Refusal.the-variants.{OutputShort}
 use Rattle.refusals.specs.declared.Checked.{Checked}
 use Rattle.refusals.specs.declared.Checked.the-variants.{Passed, Refused}
-use Rattle.refusals.specs.Refusals.{firstOf, numberOf}
+use Rattle.refusals.specs.Refusals.{refusalNo, firstOf, numberOf}
 use Rattle.rows.specs.declared.Counts.{Counts}
 use Rattle.rows.specs.declared.EntityRow.{EntityRow}
 use Rattle.record.specs.declared.Event.{Event}
@@ -30,7 +30,7 @@ use Rattle.kept_log.specs.Written.{logLength}
 use Rattle.kept_log.specs.LogRecords.{logRecords, wholly}
 use Rattle.kept_log.proofs.LogRecords.{length-logRecords, length-logBytes}
 use Rattle.kept_log.proofs.ReadBack.{log-taken-header, log-taken-contents}
-use Rattle.agreement.specs.RoundTrip.{TakenAgain, logRefusals, LogAgrees, RoundTrip}
+use Rattle.agreement.specs.RoundTrip.{TakenAgain, LogAgrees, RoundTrip}
 use Rattle.agreement.proofs.Matching.{Matches, matches, lent-alike, lent-rows, lent-sound, Ready, capacity-within}
 use Rattle.agreement.proofs.Held.{Known, known}
 use Rattle.agreement.proofs.Left.{own-lent, left-by}
@@ -39,7 +39,6 @@ use Rattle.agreement.proofs.Relogged.{relogged}
 use Rattle.agreement.proofs.Again.{Before, Regrown, regrown}
 use Rattle.agreement.proofs.TracesAgain.{backward-again, forward-again, intake-again}
 use Rattle.agreement.proofs.SameCalls.{SameTraces, same-calls}
-use Rattle.agreement.proofs.Times.{last-small}
 use Rattle.agreement.proofs.TakenAll.{batch-all, batch-answer}
 use Rattle.agreement.proofs.Log.{events-same, logRecords-reverse}
 
@@ -53,16 +52,17 @@ module _ (c : Counts) (t : Tables) (out : List ℕ) (s : isSound (capacityOf t) 
       ifRefused {A = KeptLog} (short b) (keptLog (record { refusal = numberOf (short b); length = 0 }) out)
       (keptLog (record { refusal = 0; length = length (logBytes (trailOf c t)) }) (overlaid (logBytes (trailOf c t)) out))
 
-  answered-number : (b : Bool) → answered b .answer .refusal ≡ numberOf (short b)
+  answered-number : (b : Bool) → answered b .answer .refusal ≡ cond b (refusalNo OutputShort) 0
   answered-number true = refl
   answered-number false = refl
 
   -- the log is as long as the plain list says
-  log-refusal : (rs : List Record) → c ≡ worked rs .counts → keptLogOf c t out .answer .refusal ≡ numberOf (firstOf (logRefusals rs out))
-  unfolding keptLogOf logChecks logRefusals firstOf
+  log-refusal : (rs : List Record) → c ≡ worked rs .counts
+      → keptLogOf c t out .answer .refusal ≡ cond (ltb (length out) (logLength (worked rs .counts))) (refusalNo OutputShort) 0
+  unfolding keptLogOf logChecks firstOf
   log-refusal rs same =
       let e : length (logBytes (trailOf c t)) ≡ logLength (worked rs .counts) = length-logBytes (trailOf c t) ∙ ap logLength same in
-      rw s (answered-number (ltb (length out) (length (logBytes (trailOf c t)))) ∙ ap (λ (n : ℕ). numberOf (short (ltb (length out) n))) e)
+      rw s (answered-number (ltb (length out) (length (logBytes (trailOf c t)))) ∙ ap (λ (n : ℕ). cond (ltb (length out) n) (refusalNo OutputShort) 0) e)
 
   log-passed : keptLogOf c t out .answer .refusal ≡ 0 → firstOf (logChecks c t out) ≡ Passed
   unfolding keptLogOf logChecks firstOf
@@ -155,9 +155,8 @@ held-trip cs a t l out =
     let s = lent-sound _ _ m t l in
     record {
       refusal = log-refusal c t out s (plainAfter cs) (sym (m .alike .counts));
-      again = λ q b lent room.
+      again = λ q small lent room.
           let p = log-passed c t out s q in
-          let small : c .last < 4294967296 = omega (arith, last-small cs b, ap (λ (k : Counts). k .last) (m .alike .counts)) in
           taken-again (heldAfter cs) (plainAfter cs) m t l lent room _ (log-taken-header c t out p) (log-taken-contents c t out p small);
     }
 

@@ -3,10 +3,13 @@
 use Prim.Native.Nat.{ℕ, _≤_, _<_}
 use native.Mathlib.Omega.{arith}
 use mathlib.Core.Path.{_≡_, sym, _∙_, ap}
+use mathlib.Core.Bool.{Bool, cond}
 use mathlib.Core.List.{List, []}
 use lib.ListN.{length, getD}
+use lib.Dec.{ltb}
 use borrow.Author.Tests.{le-ltb, lt-leb}
-use Rattle.refusals.specs.Refusals.{firstOf, numberOf}
+use Rattle.refusals.specs.declared.Refusal.the-variants.{OutputShort}
+use Rattle.refusals.specs.Refusals.{refusalNo, firstOf, numberOf}
 use Rattle.refusals.proofs.Checks.{all-false-passed}
 use Rattle.rows.specs.declared.Counts.{Counts}
 use Rattle.rows.specs.declared.EntityRow.{EntityRow}
@@ -28,7 +31,6 @@ use Rattle.kept_log.specs.Written.{logLength}
 use Rattle.agreement.specs.Left.{LeftBy}
 use Rattle.agreement.specs.Demand2.{Holds, Answered}
 use Rattle.agreement.specs.Demand3.{BackwardAgrees, ForwardAgrees}
-use Rattle.agreement.specs.RoundTrip.{logRefusals}
 use Rattle.agreement.specs.Refuted.{SameMarks, workedCalls, workedPlain}
 use Rattle.agreement.proofs.Left.{after-batch, leaving}
 use Rattle.agreement.proofs.Demand2.{demand2}
@@ -100,12 +102,11 @@ not-refused x work marks l w m =
     (all-false-passed _ (lt-leb (n .entities) x (omega (arith, four)), (le-ltb (length work) (n .versions) (omega (arith, five)), (le-ltb (length marks) (n .entities) (omega (arith, four)), tt))))
 
 -- a writer with an output of 104 bytes or more is not refused
-pub log-not-refused : (out : List ℕ) → 104 ≤ length out → numberOf (firstOf (logRefusals workedPlain out)) ≡ 0
-unfolding logRefusals
+pub log-not-refused : (out : List ℕ) → 104 ≤ length out → cond (ltb (length out) (logLength (worked workedPlain .counts))) (refusalNo OutputShort) 0 ≡ 0
 log-not-refused out l =
     let n = worked workedPlain .counts in
     let e : n .edges ≡ 4 = ap (λ (c : Counts). c .edges) (sym (worked-holds .counts)) ∙ edges-are worked-holds in
-    ap numberOf (all-false-passed _ (le-ltb (length out) (logLength n) (omega (arith, four)), tt))
+    ap (λ (b : Bool). cond b (refusalNo OutputShort) 0) (le-ltb (length out) (logLength n) (omega (arith, four)))
 
 -- the same bytes for the four entities
 marks-are : (marks : List ℕ) {marks′ left : List ℕ} → SameMarks (worked workedPlain .counts .entities) marks marks′ → marks′ ≡ left → SameMarks 4 marks left

@@ -2,30 +2,22 @@
 -- traces. Document 01: "Version numbers may differ after it is taken in again; work buffers are not compared then."
 use Prim.Native.Nat.{ℕ, _+_, _<_}
 use mathlib.Core.Path.{_≡_}
-use mathlib.Core.List.{List, [], _∷_}
+use mathlib.Core.Bool.{cond}
+use mathlib.Core.List.{List}
 use lib.ListN.{length, take}
 use lib.Dec.{ltb}
 use Rattle.refusals.specs.declared.Refusal.the-variants.{OutputShort}
-use Rattle.refusals.specs.Refusals.{Check, check, firstOf, numberOf}
+use Rattle.refusals.specs.Refusals.{refusalNo}
 use Rattle.rows.specs.declared.Counts.{Counts}
-use Rattle.record.specs.declared.Record.{Record}
-use Rattle.record.specs.Layout.{Bytes}
 use Rattle.rules.specs.Trail.{Tables, capacityOf, Trail, trailOf, freshCounts}
 use Rattle.rules.specs.Batch.{Batched, batchOf}
 use Rattle.rules.specs.Backward.{backwardOf}
 use Rattle.rules.specs.Forward.{forwardOf}
 use Rattle.rules.specs.KeptLog.{eventRecord, KeptLog, keptLogOf}
 use Rattle.rules.specs.PlainList.{worked}
-use Rattle.rules.specs.Calls.{Call, batch, backward, forward, EnoughRows, plainAfter}
+use Rattle.rules.specs.Calls.{Call, EnoughRows, plainAfter}
 use Rattle.kept_log.specs.Written.{logLength}
 use Rattle.agreement.specs.Left.{LeftBy}
-
--- the files of the batches are of bytes
-abbrev pub AllBytes : List Call → Type 0
-AllBytes [] = Unit {0}
-AllBytes (batch t file ∷ cs) = Bytes file × AllBytes cs
-AllBytes (backward t v time work marks ∷ cs) = AllBytes cs
-AllBytes (forward t u time work marks ∷ cs) = AllBytes cs
 
 -- the same entities and kept events: those of U are those of T
 pub record SameTrail (T U : Trail) : Type 0 where
@@ -48,19 +40,13 @@ pub record TakenAgain (c : Counts) (t : Tables) (b : Batched) : Type 0 where
   pub same : SameTrail (trailOf c t) (trailOf (b .counts) (b .tables))
   pub calls : SameCalls c t (b .counts) (b .tables)
 
--- the kept log, from what the writer leaves in the output
-abbrev pub writtenLog : KeptLog → List ℕ
-writtenLog k = take (k .answer .length) (k .out)
-
--- a writer is refused only with 15: if, by the plain list, the output is shorter than the header, the declarations and the kept events
-unfoldable pub logRefusals : List Record → List ℕ → List Check
-logRefusals rs out = check (ltb (length out) (logLength (worked rs .counts))) OutputShort ∷ []
-
--- What a writer lent out returns and leaves after the calls cs: if it is not refused, and the files were of bytes, it wrote a log that
--- a fresh trail takes in again, in tables that hold anything
+-- What a writer lent out returns and leaves after the calls cs: it is refused only with 15, if by the plain list the output is shorter than
+-- the header, the declarations and the kept events; if it is not refused, and the last time is a 32-bit number, as in a counts record, it
+-- wrote a log that a fresh trail takes in again, in tables that hold anything
 pub record LogAgrees (cs : List Call) (c : Counts) (t : Tables) (out : List ℕ) (k : KeptLog) : Type 0 where
-  pub refusal : k .answer .refusal ≡ numberOf (firstOf (logRefusals (plainAfter cs) out))
-  pub again : k .answer .refusal ≡ 0 → AllBytes cs → (lent : Tables) → EnoughRows (capacityOf lent) c → TakenAgain c t (batchOf freshCounts lent (writtenLog k))
+  pub refusal : k .answer .refusal ≡ cond (ltb (length out) (logLength (worked (plainAfter cs) .counts))) (refusalNo OutputShort) 0
+  pub again : k .answer .refusal ≡ 0 → c .last < 4294967296 → (lent : Tables) → EnoughRows (capacityOf lent) c
+      → TakenAgain c t (batchOf freshCounts lent (take (k .answer .length) (k .out)))
 
 -- after any list of calls, for a writer with any output
 abbrev pub RoundTrip : Type 0
