@@ -12,6 +12,7 @@ use Rattle.rules.specs.Paths.{CausalPath, PathBy, Gains}
 use Rattle.rules.specs.History.{Item, kept, dropped, accepted, keptEvents}
 use Rattle.rules.specs.PlainList.{itemsOf}
 use Rattle.causality.specs.Order.{upTo}
+use Rattle.causality.proofs.Strict.{among-nil, among-cons}
 use Rattle.causality.proofs.PathsBy.{causal-by}
 use Rattle.agreement.specs.Demand3.{GainsAreKept}
 use Rattle.agreement.specs.Refuted.{workedPlain}
@@ -31,20 +32,16 @@ no-path p =
     let m = backward-right (rows .p3-at-5) .marked 3 (omega (arith, four)) .1 (subst (λ (es : List Event). PathBy es 5 3 2) (sym worked-events) (causal-by 5 (accepted items-by-7) 3 2 .0 p)) in
     omega (arith, m, ap (λ (l : List ℕ). getD l 3 0) (rows .p3-at-5 .1))
 
-gains-montage : Gains by-5 (event Write 1 2 6)
-gains-montage = record {
-  ancestor = 3;
-  before = λ a. no-path (a .causal);
-  after = record {
-    other = λ q. omega arith;
-    causal = record {
+gains-montage : Gains by-5 (event Write 1 2 6) 3
+gains-montage = ((λ q. omega arith, path), λ a. no-path (a .1))
+  where
+    path : CausalPath (event Write 1 2 6 ∷ by-5) 3 2
+    path = record {
       path = event Read 3 1 5 ∷ event Write 1 2 6 ∷ [];
       links = (refl, (refl, refl));
       rising = (omega arith, tt);
-      members = (List·Memᴰ·tail (List·Memᴰ·head refl), (List·Memᴰ·head refl, tt));
-    };
-  };
-}
+      members = among-cons (List·Memᴰ·tail (List·Memᴰ·head refl)) (among-cons (List·Memᴰ·head refl) among-nil);
+    }
 
 -- the last accepted of a list of items, kept or dropped, and the items before it
 record LastItem (hs : List Item) (e : Event) (es : List Event) : Type 0 where
@@ -83,4 +80,4 @@ time-6-kept hs q g = go (b .is)
 
     go : (b .item ≡ kept e) ⊎ (b .item ≡ dropped e) → Kept hs
     go (inl p) = subst Kept (sym (split (kept e) p)) (e, kept-among (a .item) e (b .earlier), refl)
-    go (inr p) = absurd (g (a .item ∷ []) (b .earlier) e (split (dropped e) p) (subst (λ (es : List Event). Gains es e) (sym (b .before)) gains-montage))
+    go (inr p) = absurd (g (a .item ∷ []) (b .earlier) e 3 (split (dropped e) p) (subst (λ (es : List Event). Gains es e 3) (sym (b .before)) gains-montage))

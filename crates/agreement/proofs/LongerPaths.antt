@@ -1,5 +1,6 @@
 -- With the event at 8, a causal path leads from the study by the stager's two versions to the montage, and from the montage none through
 -- later events.
+use Prim.Native.Nat.{_≤_}
 use native.Mathlib.Omega.{arith}
 use mathlib.Core.Path.{_≡_, refl, sym, subst}
 use mathlib.Core.List.{List, [], _∷_, _++_, List·Memᴰ·head, List·Memᴰ·tail, List·Memᴰ·not-nil}
@@ -8,8 +9,9 @@ use Rattle.record.specs.declared.Kind.the-variants.{Read, Write}
 use Rattle.record.specs.declared.Event.{Event}
 use Rattle.rules.specs.Backward.{BackwardTrace}
 use Rattle.rules.specs.Forward.{ForwardTrace}
-use Rattle.rules.specs.Paths.{Links, AllIn, CausalPath, PathBy}
+use Rattle.rules.specs.Paths.{Links, CausalPath, PathBy}
 use Rattle.rules.specs.History.{Item, kept, accepted, NoIntake, Reached, fromIntake, fromZero}
+use Rattle.causality.proofs.Strict.{Among, among-nil, among-cons, all-mem}
 use Rattle.agreement.specs.Demand3.{BackwardAgrees, ForwardAgrees}
 use Rattle.agreement.specs.Refuted.{longerPlain}
 use Rattle.agreement.proofs.WorkedEvents.{event, items-by-7, computed}
@@ -22,17 +24,15 @@ study-to-montage = record {
   path = event Read 0 1 1 ∷ event Write 1 3 8 ∷ [];
   links = (refl, (refl, refl));
   rising = (omega arith, tt);
-  members = (
-    List·Memᴰ·tail (List·Memᴰ·tail (List·Memᴰ·tail (List·Memᴰ·tail (List·Memᴰ·tail (List·Memᴰ·tail (List·Memᴰ·tail (List·Memᴰ·head refl))))))),
-    (List·Memᴰ·head refl, tt),
-  );
+  members = among-cons (List·Memᴰ·tail (List·Memᴰ·tail (List·Memᴰ·tail (List·Memᴰ·tail (List·Memᴰ·tail (List·Memᴰ·tail (List·Memᴰ·tail (List·Memᴰ·head refl))))))))
+      (among-cons (List·Memᴰ·head refl) among-nil);
 }
 
 pub montage-back : (b : BackwardTrace) → BackwardAgrees longerPlain 3 8 b → getD (b .marks) 0 0 ≡ 1
 unfolding study-to-montage
 montage-back b a =
     a .marked 0 (omega (arith, computed .entities)) .1
-    (subst (λ (hs : List Item). PathBy (accepted hs) 8 0 3) (sym (computed .longer)) (record { causal = study-to-montage; by = (omega arith, (omega arith, tt)) }))
+    (subst (λ (hs : List Item). PathBy (accepted hs) 8 0 3) (sym (computed .longer)) (study-to-montage, λ e m. all-mem (λ d. d .time ≤ 8) (study-to-montage .path) (omega arith, (omega arith, tt)) m))
 
 -- the study has no intake
 pub study-forward : (f : ForwardTrace) → ForwardAgrees longerPlain 0 4 f → getD (f .marks) 3 0 ≡ 1
@@ -49,9 +49,9 @@ montage-alone (fromIntake l p) = go (l .later) (l .split) (l .latest) p
     go : (later : List Item) → longer ≡ later ++ (kept (l .intake) ∷ l .earlier) → NoIntake 3 8 later → CausalPath (accepted later) 3 1 → ⊥
     go [] q n p = none (p .path) (p .links) (p .members)
       where
-        none : (es : List Event) → Links 3 1 es → AllIn [] es → ⊥
+        none : (es : List Event) → Links 3 1 es → Among es [] → ⊥
         none [] k m = omega arith
-        none (e ∷ es) k m = List·Memᴰ·not-nil (m .0)
+        none (e ∷ es) k m = List·Memᴰ·not-nil (m e (List·Memᴰ·head refl))
     go (x ∷ later) q n p =
         let first : x ≡ kept (event Write 1 3 8) = cc in
         subst (λ (h : Item). NoIntake 3 8 (h ∷ later)) first n .0 refl (omega arith)

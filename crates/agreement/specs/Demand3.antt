@@ -57,7 +57,7 @@ TracesAgree (forward t u time work marks ∷ cs) =
 
 -- every event by which an entity gained an ancestor is a kept intake of it: by a dropped one none did
 abbrev pub GainsAreKept : List Item → Type 0
-GainsAreKept hs = (later earlier : List Item) (e : Event) → hs ≡ later ++ (dropped e ∷ earlier) → Gains (accepted earlier) e → ⊥
+GainsAreKept hs = (later earlier : List Item) (e : Event) (x : ℕ) → hs ≡ later ++ (dropped e ∷ earlier) → Gains (accepted earlier) e x → ⊥
 
 -- "All this is a single claim about the list and not one for each call."
 abbrev pub Demand3 : Type 0

@@ -2,19 +2,19 @@
 -- intake of u at or before t: an event at t or later that is no such intake was accepted after it.
 use Prim.Native.Nat.{ℕ, _≤_, _<_}
 use native.Mathlib.Omega.{arith}
-use mathlib.Core.Path.{_≡_, sym, _∙_}
+use mathlib.Core.Path.{_≡_, refl, sym, _∙_}
 use mathlib.Core.Logic.{_⊎_, inl, inr}
 use mathlib.Core.Bool.{cond}
 use mathlib.Core.List.{List, [], _∷_, List·Memᴰ, List·Memᴰ·head, List·Memᴰ·tail, List·Memᴰ·cases-cons, List·Memᴰ·not-nil}
 use Rattle.record.specs.declared.Event.{Event}
 use Rattle.rules.specs.Trail.{Trail}
-use Rattle.rules.specs.Paths.{Links, Rising, AllIn, CausalPath, From}
+use Rattle.rules.specs.Paths.{Links, Rising, CausalPath, PathFrom}
 use Rattle.rules.specs.History.{Item, kept, dropped, accepted}
 use Rattle.causality.specs.Working.{Grown}
 use Rattle.causality.specs.Order.{into, since, All, Falling}
 use Rattle.causality.proofs.Growth.{grown-ind}
 use Rattle.causality.proofs.Parts.{IntoCase, into-cases}
-use Rattle.causality.proofs.Strict.{all-mem}
+use Rattle.causality.proofs.Strict.{Among, among-nil, among-cons, all-mem}
 
 -- no event leads from an entity to itself
 abbrev Apart : Event → Type 0
@@ -45,21 +45,24 @@ module _ (u t : ℕ) where
 
   module _ (hs : List Item) (f : Falling (accepted hs)) where
     -- the events of a path after one at t or later are later than t
-    rest-since : (e : Event) (p : List Event) → t ≤ e .time → Rising (e ∷ p) → AllIn (accepted hs) p → AllIn (since u t hs) p
-    rest-since e [] l r a = tt
+    rest-since : (e : Event) (p : List Event) → t ≤ e .time → Rising (e ∷ p) → Among p (accepted hs) → Among p (since u t hs)
+    rest-since e [] l r a = among-nil
     rest-since e (d ∷ p) l r a =
-        (accepted-since hs f (a .0) (omega (arith, r .0)) (λ q b. omega (arith, r .0)), rest-since d p (omega (arith, r .0)) (r .1) (a .1))
+        among-cons (accepted-since hs f (a d (List·Memᴰ·head refl)) (omega (arith, r .0)) (λ q b. omega (arith, r .0)))
+        (rest-since d p (omega (arith, r .0)) (r .1) (λ x m. a x (List·Memᴰ·tail m)))
 
-    path-since : All Apart (accepted hs) → (y : ℕ) (p : List Event) → Links u y p → Rising p → AllIn (accepted hs) p → From t p → AllIn (since u t hs) p
-    path-since o y [] k r a b = tt
+    path-since : All Apart (accepted hs) → (y : ℕ) (p : List Event) → Links u y p → Rising p → Among p (accepted hs)
+        → ((e : Event) → List·Memᴰ e p → t ≤ e .time) → Among p (since u t hs)
+    path-since o y [] k r a b = among-nil
     path-since o y (e ∷ p) k r a b =
-        (accepted-since hs f (a .0) (b .0) (λ q _. all-mem Apart (accepted hs) o (a .0) (k .0 ∙ sym q)), rest-since e p (b .0) r (a .1))
+        let m = a e (List·Memᴰ·head refl) in
+        let l = b e (List·Memᴰ·head refl) in
+        among-cons (accepted-since hs f m l (λ q _. all-mem Apart (accepted hs) o m (k .0 ∙ sym q))) (rest-since e p l r (λ x n. a x (List·Memᴰ·tail n)))
 
-pub from-since : {T : Trail} {hs : List Item} → Grown T hs → Falling (accepted hs) → (u t y : ℕ) (c : CausalPath (accepted hs) u y) → From t (c .path)
-    → CausalPath (since u t hs) u y
-from-since {hs = hs} g f u t y c o = record {
+pub from-since : {T : Trail} {hs : List Item} → Grown T hs → Falling (accepted hs) → (u t y : ℕ) → PathFrom (accepted hs) t u y → CausalPath (since u t hs) u y
+from-since {hs = hs} g f u t y (c, b) = record {
   path = c .path;
   links = c .links;
   rising = c .rising;
-  members = path-since u t hs f (grown-apart g) y (c .path) (c .links) (c .rising) (c .members) o;
+  members = path-since u t hs f (grown-apart g) y (c .path) (c .links) (c .rising) (c .members) b;
 }

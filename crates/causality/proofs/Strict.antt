@@ -2,10 +2,10 @@
 use Prim.Native.Nat.{ℕ, _<_}
 use native.Mathlib.Omega.{arith}
 use mathlib.Core.Path.{_≡_, refl, sym, subst}
-use mathlib.Core.Logic.{_⊎_, inl, inr, _↔_}
-use mathlib.Core.List.{List, [], _∷_, _++_, reverse, reverseAux, reverse-reverse, List·Memᴰ, List·Memᴰ·head, List·Memᴰ·tail, List·Memᴰ·cases-cons, List·Memᴰ·not-nil}
+use mathlib.Core.Logic.{_⊎_, inl, inr, ⊎-elim, _↔_}
+use mathlib.Core.List.{List, [], _∷_, _++_, reverse, reverseAux, reverse-reverse, List·Memᴰ, List·Memᴰ·head, List·Memᴰ·tail, List·Memᴰ·cases-cons, List·Memᴰ·not-nil, Memᴰ·cast}
 use Rattle.record.specs.declared.Event.{Event}
-use Rattle.rules.specs.Paths.{Rising, AllIn, CausalPath}
+use Rattle.rules.specs.Paths.{Rising, CausalPath}
 use Rattle.rules.specs.History.{Item, kept, dropped, accepted}
 use Rattle.rules.specs.Trail.{Trail}
 use Rattle.causality.specs.Working.{lastOf, Grown}
@@ -18,14 +18,20 @@ falling-part done f = tt
 falling-part (skip s) f = falling-part s (f .1)
 falling-part (take {e = e} s) f = (All-part (λ d. d .time < e .time) s (f .0), falling-part s (f .1))
 
-in-more : (e : Event) (es c : List Event) → AllIn es c → AllIn (e ∷ es) c
-in-more e es [] a = tt
-in-more e es (d ∷ c) a = (List·Memᴰ·tail (a .0), in-more e es c (a .1))
+-- every event of c is one of es
+abbrev pub Among : List Event → List Event → Type 0
+Among c es = (e : Event) → List·Memᴰ e c → List·Memᴰ e es
 
-part-in : {c es : List Event} → Part c es → AllIn es c
-part-in done = tt
-part-in (skip {e = e} {c = c} {es = es} s) = in-more e es c (part-in s)
-part-in (take {e = e} {c = c} {es = es} s) = (List·Memᴰ·head refl, in-more e es c (part-in s))
+pub among-nil : {es : List Event} → Among [] es
+among-nil e m = absurd (List·Memᴰ·not-nil m)
+
+pub among-cons : {d : Event} {c es : List Event} → List·Memᴰ d es → Among c es → Among (d ∷ c) es
+among-cons k a e m = ⊎-elim (λ q. Memᴰ·cast q k) (a e) (List·Memᴰ·cases-cons m)
+
+part-in : {c es : List Event} → Part c es → Among c es
+part-in done = among-nil
+part-in (skip s) = λ e m. List·Memᴰ·tail (part-in s e m)
+part-in (take s) = among-cons (List·Memᴰ·head refl) (λ e m. List·Memᴰ·tail (part-in s e m))
 
 pub all-mem : (p : Event → Type 0) (es : List Event) → All p es → {e : Event} → List·Memᴰ e es → p e
 all-mem p [] a m = absurd (List·Memᴰ·not-nil m)
@@ -35,41 +41,40 @@ all-mem p (f ∷ es) a {e} m = go (List·Memᴰ·cases-cons m) (λ k. all-mem p 
     go (inl q) ih = subst p (sym q) (a .0)
     go (inr k) ih = ih k
 
--- accepted that all are earlier than e, of e ∷ es, are of es
-older : (e : Event) (es c : List Event) → All (λ d. d .time < e .time) c → AllIn (e ∷ es) c → AllIn es c
-older e es [] b a = tt
-older e es (f ∷ c) b a = (go (List·Memᴰ·cases-cons (a .0)), older e es c (b .1) (a .1))
+-- events all earlier than e, of e ∷ es, are of es
+older : (e : Event) (es c : List Event) → All (λ d. d .time < e .time) c → Among c (e ∷ es) → Among c es
+older e es c b a d m = go (List·Memᴰ·cases-cons (a d m))
   where
-    go : (f ≡ e) ⊎ List·Memᴰ f es → List·Memᴰ f es
-    go (inl q) = let h : e .time < e .time = rw q at (b .0) in absurd (omega arith)
-    go (inr m) = m
+    go : (d ≡ e) ⊎ List·Memᴰ d es → List·Memᴰ d es
+    go (inl q) = let h : e .time < e .time = rw q at (all-mem (λ x. x .time < e .time) c b m) in absurd (omega arith)
+    go (inr k) = k
 
 abbrev Parts : List Event → Type 0
-Parts es = (c : List Event) → Falling c → AllIn es c → Part c es
+Parts es = (c : List Event) → Falling c → Among c es → Part c es
 
 in-part : (es : List Event) → Falling es → Parts es
 in-part [] f = go
   where
-    go : (c : List Event) → Falling c → AllIn [] c → Part c []
+    go : (c : List Event) → Falling c → Among c [] → Part c []
     go [] g a = done
-    go (d ∷ c) g a = absurd (List·Memᴰ·not-nil (a .0))
+    go (d ∷ c) g a = absurd (List·Memᴰ·not-nil (a d (List·Memᴰ·head refl)))
 in-part (e ∷ es) f = go (in-part es (f .1))
   where
-    step : Parts es → (d : Event) (c : List Event) → Falling (d ∷ c) → AllIn (e ∷ es) c → (d ≡ e) ⊎ List·Memᴰ d es → Part (d ∷ c) (e ∷ es)
-    step ih d c g a (inl q) = rw q (take (ih c (g .1) (older e es c (rw q at (g .0)) a)))
+    step : Parts es → (d : Event) (c : List Event) → Falling (d ∷ c) → Among (d ∷ c) (e ∷ es) → (d ≡ e) ⊎ List·Memᴰ d es → Part (d ∷ c) (e ∷ es)
+    step ih d c g a (inl q) = rw q (take (ih c (g .1) (older e es c (rw q at (g .0)) (λ x k. a x (List·Memᴰ·tail k)))))
     step ih d c g a (inr m) =
         let l : d .time < e .time = all-mem (λ x. x .time < e .time) es (f .0) m in
-        skip (ih (d ∷ c) g (m, older e es c (All-imp (λ x k. omega arith) c (g .0)) a))
+        skip (ih (d ∷ c) g (older e es (d ∷ c) (l, All-imp (λ x k. omega arith) c (g .0)) a))
 
-    go : Parts es → (c : List Event) → Falling c → AllIn (e ∷ es) c → Part c (e ∷ es)
+    go : Parts es → (c : List Event) → Falling c → Among c (e ∷ es) → Part c (e ∷ es)
     go ih [] g a = part-nil (e ∷ es)
-    go ih (d ∷ c) g a = step ih d c g (a .1) (List·Memᴰ·cases-cons (a .0))
+    go ih (d ∷ c) g a = step ih d c g a (List·Memᴰ·cases-cons (a d (List·Memᴰ·head refl)))
 
 -- the list turned round
 
-in-reverse : (es c r : List Event) → AllIn es c → AllIn es r → AllIn es (reverseAux c r)
+in-reverse : (es c r : List Event) → Among c es → Among r es → Among (reverseAux c r) es
 in-reverse es [] r a b = b
-in-reverse es (e ∷ c) r a b = in-reverse es c (e ∷ r) (a .1) (a .0, b)
+in-reverse es (e ∷ c) r a b = in-reverse es c (e ∷ r) (λ d m. a d (List·Memᴰ·tail m)) (among-cons (a e (List·Memᴰ·head refl)) b)
 
 abbrev Under : List Event → List Event → Type 0
 Under r [] = Unit {0}
@@ -106,7 +111,7 @@ order-causal es f x y = (to, from)
           path = p .path;
           links = p .links;
           rising = subst Rising (reverse-reverse (p .path)) (falling-rising (reverse (p .path)) [] (falling-part (p .order) f) (over (reverse (p .path))) tt);
-          members = subst (AllIn es) (reverse-reverse (p .path)) (in-reverse es (reverse (p .path)) [] (part-in (p .order)) tt);
+          members = subst (λ c. Among c es) (reverse-reverse (p .path)) (in-reverse es (reverse (p .path)) [] (part-in (p .order)) among-nil);
         }
 
     from : CausalPath es x y → OrderPath es x y
@@ -114,7 +119,7 @@ order-causal es f x y = (to, from)
         record {
           path = p .path;
           links = p .links;
-          order = in-part es f (reverse (p .path)) (rising-falling (p .path) [] (p .rising) (under (p .path)) tt) (in-reverse es (p .path) [] (p .members) tt);
+          order = in-part es f (reverse (p .path)) (rising-falling (p .path) [] (p .rising) (under (p .path)) tt) (in-reverse es (p .path) [] (p .members) among-nil);
         }
 
 -- the earlier part of a list whose times rise strictly

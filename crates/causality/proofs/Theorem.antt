@@ -30,9 +30,9 @@ use Rattle.causality.proofs.AtOrLater.{from-since}
 
 -- any working
 
-gain : {T : Trail} {hs : List Item} → Grown T hs → (later earlier : List Item) (e : Event) → hs ≡ later ++ (dropped e ∷ earlier) → (x : ℕ)
+gain : {T : Trail} {hs : List Item} → Grown T hs → (later earlier : List Item) (e : Event) (x : ℕ) → hs ≡ later ++ (dropped e ∷ earlier)
     → OrderPath (e ∷ accepted earlier) x (e .target .0) → OrderPath (accepted earlier) x (e .target .0)
-gain g later earlier e q x p =
+gain g later earlier e x q p =
     reach-path (accepted earlier) x (e .target .0) .0
     (dropped-gains-none g later (dropped e) earlier q x (e .target .0) (reach-path (e ∷ accepted earlier) x (e .target .0) .1 p))
 
@@ -74,12 +74,12 @@ reached u t hs y = (to (latest-intake u t hs), from)
     from (fromIntake l p) = subst (λ es. CausalPath es u y) (sym (since-intake l)) p
     from (fromZero n p) = subst (λ es. CausalPath es u y) (sym (since-none u t hs n)) p
 
-causal-gain : {T : Trail} {hs : List Item} → Grown T hs → Falling (accepted hs) → (later earlier : List Item) (e : Event)
-    → hs ≡ later ++ (dropped e ∷ earlier) → Gains (accepted earlier) e → ⊥
-causal-gain {hs = hs} g f later earlier e q a =
+causal-gain : {T : Trail} {hs : List Item} → Grown T hs → Falling (accepted hs) → (later earlier : List Item) (e : Event) (x : ℕ)
+    → hs ≡ later ++ (dropped e ∷ earlier) → Gains (accepted earlier) e x → ⊥
+causal-gain {hs = hs} g f later earlier e x q ((other, p), none) =
     let o = earlier-falling later (dropped e) earlier hs q f in
-    let p = order-causal (e ∷ accepted earlier) (o .0) (a .ancestor) (e .target .0) .1 (a .after .causal) in
-    a .before (record { other = a .after .other; causal = order-causal (accepted earlier) (o .1) (a .ancestor) (e .target .0) .0 (gain g later earlier e q (a .ancestor) p) })
+    let k = order-causal (e ∷ accepted earlier) (o .0) x (e .target .0) .1 p in
+    none (other, order-causal (accepted earlier) (o .1) x (e .target .0) .0 (gain g later earlier e x q k))
 
 document : {T : Trail} {hs : List Item} → Grown T hs → Falling (accepted hs) → Document01 T hs
 document {T} {hs} g f =
@@ -89,7 +89,7 @@ document {T} {hs} g f =
           (Iff·trans (order-causal (upTo t (accepted hs)) (falling-part (upTo-part t (accepted hs)) f) x v) (causal-by t (accepted hs) x v));
       forward = forward;
       intake = faithful g .intake;
-      never-less = λ u t s y h r p. forward u t s y h r .1 (reached u t hs y .0 (from-since g f u t y (p .causal) (p .from)));
+      never-less = λ u t s y h r p. forward u t s y h r .1 (reached u t hs y .0 (from-since g f u t y p));
       gain = causal-gain g f;
     }
   where

@@ -45,7 +45,7 @@ pub record Faithful (T : Trail) (hs : List Item) : Type 0 where
   -- never less than the paths through events later than t; times may be equal here
   pub never-less : (u t s y : ℕ) → u < ne T → StartVersion T u t s → OrderPath (above t (accepted hs)) u y → EntityMarked T (ForwardMarks T s) y
   -- a dropped event gives its target no causal path that it had not
-  pub gain : (later earlier : List Item) (e : Event) → hs ≡ later ++ (dropped e ∷ earlier) → (x : ℕ)
+  pub gain : (later earlier : List Item) (e : Event) (x : ℕ) → hs ≡ later ++ (dropped e ∷ earlier)
       → OrderPath (e ∷ accepted earlier) x (e .target .0) → OrderPath (accepted earlier) x (e .target .0)
   -- the edges are the kept events in order
   pub edges : nd T ≡ length (keptEvents hs)
@@ -67,7 +67,7 @@ pub record Document01 (T : Trail) (hs : List Item) : Type 0 where
   -- "a forward answer may hold more than the full log's answer at t, never less"
   pub never-less : (u t s y : ℕ) → u < ne T → StartVersion T u t s → PathFrom (accepted hs) t u y → EntityMarked T (ForwardMarks T s) y
   -- no entity gains an ancestor by a dropped event
-  pub gain : (later earlier : List Item) (e : Event) → hs ≡ later ++ (dropped e ∷ earlier) → Gains (accepted earlier) e → ⊥
+  pub gain : (later earlier : List Item) (e : Event) (x : ℕ) → hs ≡ later ++ (dropped e ∷ earlier) → Gains (accepted earlier) e x → ⊥
 
 pub record Claims : Type 0 where
   pub any-working : {T : Trail} {hs : List Item} → Grown T hs → Faithful T hs

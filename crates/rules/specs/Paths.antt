@@ -15,45 +15,26 @@ Rising [] = Unit {0}
 Rising (e ∷ []) = Unit {0}
 Rising (e ∷ (f ∷ p)) = (e .time < f .time) × Rising (f ∷ p)
 
--- every event of the path is one of es
-abbrev pub AllIn : List Event → List Event → Type 0
-AllIn es [] = Unit {0}
-AllIn es (e ∷ p) = List·Memᴰ e es × AllIn es p
-
 -- "A causal path is a chain of accepted events, each starting where the one before ended, times rising."
 pub record CausalPath (es : List Event) (x y : ℕ) : Type 0 where
   pub path : List Event
   pub links : Links x y path
   pub rising : Rising path
-  pub members : AllIn es path
+  pub members : (e : Event) → List·Memᴰ e path → List·Memᴰ e es
 
 -- "A path is in by t if no event of it is later than t."
-abbrev pub InBy : ℕ → List Event → Type 0
-InBy t [] = Unit {0}
-InBy t (e ∷ p) = (e .time ≤ t) × InBy t p
-
-pub record PathBy (es : List Event) (t x y : ℕ) : Type 0 where
-  pub causal : CausalPath es x y
-  pub by : InBy t (causal .path)
-
--- no event of the path is before t
-abbrev pub From : ℕ → List Event → Type 0
-From t [] = Unit {0}
-From t (e ∷ p) = (t ≤ e .time) × From t p
+abbrev pub PathBy : List Event → ℕ → ℕ → ℕ → Type 0
+PathBy es t x y = (p : CausalPath es x y) × ((e : Event) → List·Memᴰ e (p .path) → e .time ≤ t)
 
 -- "the full log's answer at t", forward: a causal path through events at t or later (the paper, Definition 2)
-pub record PathFrom (es : List Event) (t x y : ℕ) : Type 0 where
-  pub causal : CausalPath es x y
-  pub from : From t (causal .path)
+abbrev pub PathFrom : List Event → ℕ → ℕ → ℕ → Type 0
+PathFrom es t x y = (p : CausalPath es x y) × ((e : Event) → List·Memᴰ e (p .path) → t ≤ e .time)
 
 -- "An ancestor of an entity is another one with a causal path to it": x is one of y
-pub record Ancestor (es : List Event) (x y : ℕ) : Type 0 where
-  pub other : x ≡ y → ⊥
-  pub causal : CausalPath es x y
+abbrev pub Ancestor : List Event → ℕ → ℕ → Type 0
+Ancestor es x y = (x ≡ y → ⊥) × CausalPath es x y
 
 -- "an entity gains an ancestor by an accepted event into it after which some other entity has a path to it that had
--- none before": by e, accepted after es
-pub record Gains (es : List Event) (e : Event) : Type 0 where
-  pub ancestor : ℕ
-  pub before : Ancestor es ancestor (e .target .0) → ⊥
-  pub after : Ancestor (e ∷ es) ancestor (e .target .0)
+-- none before": it gains x by e, accepted after es
+abbrev pub Gains : List Event → Event → ℕ → Type 0
+Gains es e x = Ancestor (e ∷ es) x (e .target .0) × (Ancestor es x (e .target .0) → ⊥)
