@@ -2,7 +2,7 @@
 -- relations is said of the buffers, since the calls are those of the relations.
 use Prim.Native.Nat.{ℕ, _<_}
 use native.Mathlib.Omega.{arith}
-use mathlib.Core.Path.{_≡_, refl, sym, _∙_, subst}
+use mathlib.Core.Path.{_≡_, refl, sym, _∙_}
 use mathlib.Core.Logic.{_↔_, Iff·trans}
 use mathlib.Core.Bool.{true}
 use mathlib.Core.List.{List, [], _∷_}
@@ -11,7 +11,6 @@ use Rattle.rows.specs.declared.Counts.{Counts}
 use Rattle.record.specs.declared.Record.{Record}
 use Rattle.rules.specs.Trail.{Tables, capacityOf, Trail, trailOf}
 use Rattle.rules.specs.Sound.{isSound}
-use Rattle.rules.specs.History.{IntakeTime}
 use Rattle.rules.specs.PlainList.{worked, itemsOf}
 use Rattle.rules.specs.Backward.{traceRefusals, traceChecks, BackwardTrace, backwardOf}
 use Rattle.rules.specs.Forward.{ForwardTrace, forwardOf}
@@ -56,7 +55,7 @@ module _ (c : Counts) (t : Tables) (rs : List Record) (k : Known (trailOf c t) (
     forward-agrees : (f : ForwardTrace) → ForwardTraced T x time work marks f → ForwardAgrees rs x time f
     forward-agrees f z = record {
       marks = marks-are (z .3) (λ y. Iff·trans marked-some (k .document01 .forward x time (z .0) y i (z .1)));
-      intake = subst (IntakeTime x time (itemsOf rs)) (intake-one T (z .0) time (intakeOf-is T (z .0) time) (z .2)) (k .document01 .intake x time (z .0) i (z .1));
+      intake = intake-one T (z .0) time (z .2) (intakeOf-is T (z .0) time) ∙ k .document01 .intake x time (z .0) i (z .1);
       never-less = λ y p.
           let e = z .3 .entities .marked y .1 (marked-some .1 (k .document01 .never-less x time (z .0) y i (z .1) p)) in
           (omega (arith, k .entities, e .0), e .1);

@@ -1,5 +1,5 @@
--- The claims determine the answers: a byte is 0 or 1 and says whether the claim's relation holds; a relation has one count and one
--- latest intake; rows and counts are given by equations; a plain list grew by as many records as it is longer.
+-- The claims determine the answers: a byte is 0 or 1 and says whether the claim's relation holds; a relation has one count;
+-- the intake, rows and counts are given by equations; a plain list grew by as many records as it is longer.
 use Prim.Native.Nat.{ℕ, _+_}
 use native.Mathlib.Omega.{arith}
 use mathlib.Core.Path.{_≡_, sym, _∙_, ap}
@@ -12,10 +12,8 @@ use Rattle.record.specs.declared.Record.{Record}
 use Rattle.rules.specs.declared.BatchAnswer.{BatchAnswer}
 use Rattle.rules.specs.Trail.{Tables, trailOf}
 use Rattle.rules.specs.Batch.{contentsOf}
-use Rattle.rules.specs.PlainList.{itemsOf}
 use Rattle.closure.specs.Same.{SameRows}
 use Rattle.closure.proofs.Descending.{count-one}
-use Rattle.causality.proofs.IntakeTime.{latestTime-one}
 use Rattle.agreement.specs.Demand2.{Holds, Answered}
 use Rattle.agreement.specs.Demand3.{MarksAre}
 use Rattle.agreement.specs.Refuted.{SameMarks, Determined}
@@ -68,7 +66,7 @@ determined = record {
   forward = λ rs u time f f′ a a′. (
     marks-one (a .marks) (a′ .marks),
     count-same (a .marks) (a′ .marks),
-    latestTime-one u time (itemsOf rs) _ (a .intake) ∙ sym (latestTime-one u time (itemsOf rs) _ (a′ .intake)),
+    a .intake ∙ sym (a′ .intake),
   );
   holds = λ rs c c′ t t′ h h′. (counts-one rs c c′ t t′ h h′, rows-one rs c c′ t t′ h h′);
   answer = λ rs t file rs′ a a′ g g′.

@@ -8,9 +8,9 @@ use mathlib.Core.Bool.{Bool, true, false, cond}
 use mathlib.Core.List.{List, [], _∷_}
 use Rattle.record.specs.declared.Event.{Event}
 use Rattle.rules.specs.Trail.{Trail}
-use Rattle.rules.specs.History.{Item, kept, dropped, accepted, keptEvents}
+use Rattle.rules.specs.History.{Item, kept, dropped, accepted, keptEvents, into, since, intakeTime}
 use Rattle.causality.specs.Working.{ne, Grown}
-use Rattle.causality.specs.Order.{Part, done, skip, take, upTo, into, since}
+use Rattle.causality.specs.Order.{Part, done, skip, take, upTo}
 use Rattle.causality.proofs.Declared.{OldEntity}
 use Rattle.causality.proofs.Growth.{inv, grown-ind, OnDeclared, OnDropped, OnKept}
 use Rattle.causality.proofs.Reach.{Reach, All-imp, reach-refl, reach-part, reach-stuck}
@@ -92,6 +92,12 @@ carried g = grown-ind Carried (λ T q _ _ u t y h. absurd (omega arith)) decl dr
 pub forward-kept : {T : Trail} {hs : List Item} → Grown T hs → (u t y : ℕ) → u < ne T
     → Reach (since u t (allKept (keptEvents hs))) u y ↔ Reach (since u t hs) u y
 forward-kept {T} {hs} g u t y h = (reach-part (since-kept-part u t hs) u y, carried g u t y h)
+
+pub intakeTime-kept : (u t : ℕ) (hs : List Item) → intakeTime u t (allKept (keptEvents hs)) ≡ intakeTime u t hs
+unfolding intakeTime
+intakeTime-kept u t [] = refl
+intakeTime-kept u t (kept e ∷ hs) = ap (cond (into u t e) (e .time)) (intakeTime-kept u t hs)
+intakeTime-kept u t (dropped e ∷ hs) = intakeTime-kept u t hs
 
 -- backward
 

@@ -3,14 +3,14 @@
 use Prim.Native.Nat.{_≤_}
 use native.Mathlib.Omega.{arith}
 use mathlib.Core.Path.{_≡_, refl, sym, subst}
-use mathlib.Core.List.{List, [], _∷_, _++_, List·Memᴰ·head, List·Memᴰ·tail, List·Memᴰ·not-nil}
+use mathlib.Core.List.{List, [], _∷_, List·Memᴰ·head, List·Memᴰ·tail, List·Memᴰ·not-nil}
 use lib.ListN.{getD}
 use Rattle.record.specs.declared.Kind.the-variants.{Read, Write}
 use Rattle.record.specs.declared.Event.{Event}
 use Rattle.rules.specs.Backward.{BackwardTrace}
 use Rattle.rules.specs.Forward.{ForwardTrace}
 use Rattle.rules.specs.Paths.{Links, CausalPath, PathBy}
-use Rattle.rules.specs.History.{Item, kept, accepted, NoIntake, Reached, fromIntake, fromZero}
+use Rattle.rules.specs.History.{Item, kept, accepted, into, since, Reached}
 use Rattle.causality.proofs.Strict.{Among, among-nil, among-cons, all-mem}
 use Rattle.agreement.specs.Demand3.{BackwardAgrees, ForwardAgrees}
 use Rattle.agreement.specs.Refuted.{longerPlain}
@@ -36,25 +36,18 @@ montage-back b a =
 
 -- the study has no intake
 pub study-forward : (f : ForwardTrace) → ForwardAgrees longerPlain 0 4 f → getD (f .marks) 3 0 ≡ 1
+unfolding since into
 study-forward f a =
-    a .marks .marked 3 (omega (arith, computed .entities)) .1
-    (subst (λ (hs : List Item). Reached 0 4 hs 3) (sym (computed .longer))
-    (fromZero (λ q l. omega arith, (λ q l. omega arith, (λ q l. omega arith, (λ q l. omega arith, (λ q l. omega arith, tt))))) study-to-montage))
+    a .marks .marked 3 (omega (arith, computed .entities)) .1 (subst (λ (hs : List Item). Reached 0 4 hs 3) (sym (computed .longer)) study-to-montage)
 
 -- the event at 8 is the montage's intake, and nothing is accepted after it
 montage-alone : Reached 3 8 longer 1 → ⊥
-montage-alone (fromZero n p) = n .0 refl (omega arith)
-montage-alone (fromIntake l p) = go (l .later) (l .split) (l .latest) p
+unfolding since into
+montage-alone p = none (p .path) (p .links) (p .members)
   where
-    go : (later : List Item) → longer ≡ later ++ (kept (l .intake) ∷ l .earlier) → NoIntake 3 8 later → CausalPath (accepted later) 3 1 → ⊥
-    go [] q n p = none (p .path) (p .links) (p .members)
-      where
-        none : (es : List Event) → Links 3 1 es → Among es [] → ⊥
-        none [] k m = omega arith
-        none (e ∷ es) k m = List·Memᴰ·not-nil (m e (List·Memᴰ·head refl))
-    go (x ∷ later) q n p =
-        let first : x ≡ kept (event Write 1 3 8) = cc in
-        subst (λ (h : Item). NoIntake 3 8 (h ∷ later)) first n .0 refl (omega arith)
+    none : (es : List Event) → Links 3 1 es → Among es [] → ⊥
+    none [] k m = omega arith
+    none (e ∷ es) k m = List·Memᴰ·not-nil (m e (List·Memᴰ·head refl))
 
 pub montage-forward : (f : ForwardTrace) → ForwardAgrees longerPlain 3 8 f → getD (f .marks) 1 0 ≡ 1 → ⊥
 montage-forward f a m =

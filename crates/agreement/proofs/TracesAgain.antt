@@ -1,24 +1,23 @@
 -- Two trails of which the second accepted just the kept events of the first give equal traces.
 use Prim.Native.Nat.{ℕ, _<_}
 use native.Mathlib.Omega.{arith}
-use mathlib.Core.Path.{_≡_, sym, _∙_, ap, subst}
+use mathlib.Core.Path.{_≡_, sym, _∙_, subst}
 use mathlib.Core.Logic.{_↔_, Iff·trans, Iff·symm}
 use mathlib.Core.List.{List}
 use lib.ListN.{getD}
 use Rattle.record.specs.declared.Event.{Event}
 use Rattle.rules.specs.Trail.{Trail}
-use Rattle.rules.specs.History.{Item, accepted, keptEvents}
+use Rattle.rules.specs.History.{Item, accepted, keptEvents, since}
 use Rattle.rules.specs.Start.{startOf}
 use Rattle.rules.specs.Backward.{backwardEntities}
 use Rattle.rules.specs.Forward.{forwardEntities, forwardIntake}
 use Rattle.closure.proofs.StartVersion.{startOf-is}
 use Rattle.closure.proofs.Marks.{marks-ext}
 use Rattle.closure.proofs.Traces.{backward-marks, forward-marks, length-backwardEntities, length-forwardEntities, bits-backwardEntities, bits-forwardEntities}
-use Rattle.causality.specs.Order.{upTo, since}
+use Rattle.causality.specs.Order.{upTo}
 use Rattle.causality.proofs.Reach.{Reach, reach-path}
-use Rattle.causality.proofs.IntakeTime.{latestTime, latestTime-one}
 use Rattle.agreement.proofs.Held.{marked-some, Known}
-use Rattle.agreement.proofs.KeptOnly.{allKept, accepted-allKept, keptEvents-allKept, forward-kept, backward-kept}
+use Rattle.agreement.proofs.KeptOnly.{allKept, accepted-allKept, forward-kept, intakeTime-kept, backward-kept}
 
 -- The traces of one trail
 
@@ -63,6 +62,6 @@ module _ {T U : Trail} {n m : ℕ} {hs : List Item} (k : Known T n hs) (j : Know
   unfolding forwardIntake
   intake-again u t h =
       let i : u < U .counts .entities = omega arith in
-      latestTime-one u t _ _ (j .faithful .intake u t (startOf U u t) i (startOf-is U (j .rows) (j .few) u t i))
-      ∙ ap (latestTime u t) (keptEvents-allKept (keptEvents hs))
-      ∙ sym (latestTime-one u t _ _ (k .faithful .intake u t (startOf T u t) h (startOf-is T (k .rows) (k .few) u t h)))
+      j .faithful .intake u t (startOf U u t) i (startOf-is U (j .rows) (j .few) u t i)
+      ∙ intakeTime-kept u t hs
+      ∙ sym (k .faithful .intake u t (startOf T u t) h (startOf-is T (k .rows) (k .few) u t h))

@@ -9,7 +9,7 @@ use Rattle.refusals.specs.Refusals.{Check, firstOf, numberOf}
 use Rattle.record.specs.declared.Event.{Event}
 use Rattle.record.specs.declared.Record.{Record}
 use Rattle.rules.specs.Paths.{PathBy, PathFrom, Gains}
-use Rattle.rules.specs.History.{Item, dropped, accepted, Reached, IntakeTime}
+use Rattle.rules.specs.History.{Item, dropped, accepted, intakeTime, Reached}
 use Rattle.rules.specs.PlainList.{worked, itemsOf}
 use Rattle.rules.specs.Backward.{traceRefusals, BackwardTrace, backwardOf}
 use Rattle.rules.specs.Forward.{ForwardTrace, forwardOf}
@@ -30,7 +30,7 @@ BackwardAgrees rs v time b = MarksAre (worked rs .counts .entities) (λ x. PathB
 -- the intake given is that one's time, 0 if there is none; never less than the full log's answer at the time
 pub record ForwardAgrees (rs : List Record) (u time : ℕ) (f : ForwardTrace) : Type 0 where
   pub marks : MarksAre (worked rs .counts .entities) (Reached u time (itemsOf rs)) (f .marks) (f .answer .count)
-  pub intake : IntakeTime u time (itemsOf rs) (f .answer .intake)
+  pub intake : f .answer .intake ≡ intakeTime u time (itemsOf rs)
   pub never-less : (y : ℕ) → PathFrom (accepted (itemsOf rs)) time u y → (y < worked rs .counts .entities) × (getD (f .marks) y 0 ≡ 1)
 
 -- a trace returns the number of the first of these refusals that holds, and if none does, it agrees

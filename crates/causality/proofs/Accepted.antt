@@ -6,7 +6,7 @@ use mathlib.Core.Logic.{inl, inr}
 use mathlib.Core.List.{List, [], _∷_}
 use Rattle.record.specs.declared.Event.{Event}
 use Rattle.rules.specs.Trail.{Trail}
-use Rattle.rules.specs.History.{Item, kept, dropped, accepted, NoIntake}
+use Rattle.rules.specs.History.{Item, accepted}
 use Rattle.causality.specs.Working.{ne, lastOf, Fit, Grown}
 use Rattle.causality.specs.Order.{All}
 use Rattle.causality.proofs.Growth.{grown-ind, OnDeclared, OnDropped, OnKept}
@@ -57,12 +57,6 @@ grown-within g = grown-events g .0
 
 pub grown-ordered : {T : Trail} {hs : List Item} → Grown T hs → Ordered (accepted hs)
 grown-ordered g = grown-events g .1
-
--- no accepted event is an intake of u by t, so no kept one is
-pub no-intake : (u t : ℕ) (hs : List Item) → All (λ e. e .target .0 ≡ u → e .time ≤ t → ⊥) (accepted hs) → NoIntake u t hs
-no-intake u t [] a = tt
-no-intake u t (kept e ∷ hs) a = (a .0, no-intake u t hs (a .1))
-no-intake u t (dropped e ∷ hs) a = no-intake u t hs (a .1)
 
 pub reach-within : (n l : ℕ) (es : List Event) → All (Within n l) es → (x y : ℕ) → x < n → Reach es x y → y < n
 reach-within n l [] a x y h r = rw (← r) h

@@ -7,15 +7,14 @@ use mathlib.Core.Logic.{inl, inr, _↔_}
 use mathlib.Core.List.{List, [], _∷_, _++_}
 use Rattle.record.specs.declared.Event.{Event}
 use Rattle.rules.specs.Trail.{Trail, latestOf, ownerOf}
-use Rattle.rules.specs.History.{Item, kept, dropped, accepted}
+use Rattle.rules.specs.History.{Item, kept, dropped, accepted, since}
 use Rattle.rules.specs.Forward.{ForwardMarks}
 use Rattle.causality.specs.Working.{ne, nv, lastOf, Fit, MayDrop, Grown}
-use Rattle.causality.specs.Order.{since}
 use Rattle.causality.proofs.Invariant.{Inv}
 use Rattle.causality.proofs.Growth.{inv, grown-ind}
 use Rattle.causality.proofs.Reach.{Reach, All-imp}
-use Rattle.causality.proofs.Parts.{since-none}
-use Rattle.causality.proofs.Accepted.{grown-within, no-intake, reach-source}
+use Rattle.causality.proofs.Parts.{since-all}
+use Rattle.causality.proofs.Accepted.{grown-within, reach-source}
 use Rattle.causality.proofs.Walk.{StartsAt, walk-start, starts-in, starts-owner, starts-some}
 use Rattle.causality.proofs.ForwardMarks.{fwd-trans}
 use Rattle.causality.proofs.Upward.{leads-up, first}
@@ -34,7 +33,7 @@ ancestors {T} {hs} g x y h = (to, from)
     i = inv g
 
     all : since x 0 hs ≡ accepted hs
-    all = since-none x 0 hs (no-intake x 0 hs (All-imp (λ e w _ l. omega (arith, w .positive)) (accepted hs) (grown-within g)))
+    all = since-all x 0 hs (All-imp (λ e w _ l. omega (arith, w .positive)) (accepted hs) (grown-within g))
 
     -- from the start version of x at 0, which is its first
     at : (s : ℕ) → x < ne T → StartsAt T x 0 s → ForwardMarks T s (latestOf T y) ↔ Reach (accepted hs) x y

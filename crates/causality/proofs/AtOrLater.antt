@@ -9,9 +9,9 @@ use mathlib.Core.List.{List, [], _∷_, List·Memᴰ, List·Memᴰ·head, List·
 use Rattle.record.specs.declared.Event.{Event}
 use Rattle.rules.specs.Trail.{Trail}
 use Rattle.rules.specs.Paths.{Links, Rising, CausalPath, PathFrom}
-use Rattle.rules.specs.History.{Item, kept, dropped, accepted}
+use Rattle.rules.specs.History.{Item, kept, dropped, accepted, into, since}
 use Rattle.causality.specs.Working.{Grown}
-use Rattle.causality.specs.Order.{into, since, All, Falling}
+use Rattle.causality.specs.Order.{All, Falling}
 use Rattle.causality.proofs.Growth.{grown-ind}
 use Rattle.causality.proofs.Parts.{IntoCase, into-cases}
 use Rattle.causality.proofs.Strict.{Among, among-nil, among-cons, all-mem}

@@ -4,9 +4,8 @@ use native.Mathlib.Omega.{arith}
 use mathlib.Core.Logic.{_↔_}
 use mathlib.Core.List.{List}
 use Rattle.rules.specs.Trail.{Trail, latestOf}
-use Rattle.rules.specs.History.{Item, accepted}
+use Rattle.rules.specs.History.{Item, accepted, since}
 use Rattle.causality.specs.Working.{ne, nv, Leads, lastOf, Grown}
-use Rattle.causality.specs.Order.{since}
 use Rattle.causality.proofs.Invariant.{Inv}
 use Rattle.causality.proofs.Growth.{inv, grown-ind}
 use Rattle.causality.proofs.Reach.{Reach, reach-part}

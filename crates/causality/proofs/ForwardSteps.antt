@@ -8,10 +8,9 @@ use mathlib.Core.Bool.{cond}
 use mathlib.Core.List.{List, [], _∷_}
 use Rattle.record.specs.declared.Event.{Event}
 use Rattle.rules.specs.Trail.{Trail, latestOf}
-use Rattle.rules.specs.History.{Item, kept, accepted}
+use Rattle.rules.specs.History.{Item, kept, accepted, into, since}
 use Rattle.rules.specs.Forward.{ForwardMarks, start}
 use Rattle.causality.specs.Working.{ne, nv, Wide, New, lastOf, Grown}
-use Rattle.causality.specs.Order.{into, since}
 use Rattle.causality.proofs.Declared.{OldEntity, Declared}
 use Rattle.causality.proofs.Kept.{Kept, kept-latest, NewLatest, w-top, w-unused, w-other}
 use Rattle.causality.proofs.KeptInvariant.{inv-kept}

@@ -6,20 +6,18 @@ use mathlib.Core.Logic.{inl, inr}
 use mathlib.Core.Bool.{cond}
 use mathlib.Core.List.{List}
 use Rattle.rules.specs.Trail.{Trail, latestOf}
-use Rattle.rules.specs.History.{Item, accepted, keptEvents, IntakeTime}
+use Rattle.rules.specs.History.{Item, accepted, into, intakeTime}
 use Rattle.rules.specs.Start.{Enters, IsIntake, intakeOf}
 use Rattle.rules.proofs.Intake.{intakeOf-is, intake-one}
 use Rattle.causality.specs.Working.{ne, nv, startTime, EdgeIn, Grown}
-use Rattle.causality.specs.Order.{into}
 use Rattle.causality.proofs.Declared.{OldEntity}
 use Rattle.causality.proofs.Entered.{NewEdge}
 use Rattle.causality.proofs.Kept.{kept-latest, NewLatest, w-other}
 use Rattle.causality.proofs.KeptInvariant.{inv-kept}
 use Rattle.causality.proofs.Growth.{inv, grown-ind, OnDeclared, OnKept}
 use Rattle.causality.proofs.Reach.{All-imp}
-use Rattle.causality.proofs.Parts.{IntoCase, into-cases}
-use Rattle.causality.proofs.IntakeTime.{latestTime, latestTime-none, latestTime-is}
-use Rattle.causality.proofs.Accepted.{grown-within, no-intake}
+use Rattle.causality.proofs.Parts.{IntoCase, into-cases, intakeTime-none}
+use Rattle.causality.proofs.Accepted.{grown-within}
 use Rattle.causality.proofs.Walk.{StartsAt, walk-last, walk-declared, starts-in, starts-back}
 
 -- an edge that enters s by t, as an edge between versions, and the other way round
@@ -35,7 +33,7 @@ by-edge h l most = IsIntake.greatest (h .number) (edge-enters h l) (sym (h .time
 
 -- the time of the latest kept intake is the intake of the start version
 abbrev Timed : Trail → List Item → Type 0
-Timed T hs = (u t s : ℕ) → u < ne T → StartsAt T u t s → IsIntake T s t (latestTime u t (keptEvents hs))
+Timed T hs = (u t s : ℕ) → u < ne T → StartsAt T u t s → IsIntake T s t (intakeTime u t hs)
 
 -- a start version that was there, and that no edge enters by t since
 stays : {T T′ : Trail} {s t i : ℕ} → startTime T′ s ≡ startTime T s → ((a x : ℕ) → EdgeIn T a s x → EdgeIn T′ a s x)
@@ -48,17 +46,17 @@ stays q old new (IsIntake.start n p) = IsIntake.start (λ k e. let o = new _ _ (
 timed-declared : OnDeclared Timed
 timed-declared T T′ hs g d ih u t s h r = go (d .entity-inv u h)
   where
-    go : OldEntity T u → IsIntake T′ s t (latestTime u t (keptEvents hs))
+    go : OldEntity T u → IsIntake T′ s t (intakeTime u t hs)
     go (inl m) =
         let z = walk-declared (inv g) d (inv g .latest-in u m) (rw (d .row .latest-old u m) at r) in
         stays (d .start-old s (starts-in (inv g) m z)) (λ a x k. d .edge-old k) (λ a x k l. d .edge-inv k) (ih u t s m z)
     go (inr q) =
         let y : nv T ≡ s = walk-last (omega (arith, d .row .start-new)) (rw (q, d .row .latest-new) at r) in
-        rw (q, latestTime-none (ne T) t hs (no-intake (ne T) t hs (All-imp (λ e w q _. omega (arith, w .target-in)) (accepted hs) (grown-within g))), ← y)
+        rw (q, intakeTime-none (ne T) t hs (All-imp (λ e w q _. omega (arith, w .target-in)) (accepted hs) (grown-within g)), ← y)
         (IsIntake.start (λ k e. omega (arith, inv g .to-in (d .edge-inv (enters-edge e)))) (sym (d .row .start-new)))
 
 timed-kept : OnKept Timed
-unfolding latestTime
+unfolding intakeTime
 timed-kept T T′ hs e w g k ih u t s h r = go (into-cases u t e)
   where
     m : u < ne T
@@ -72,7 +70,7 @@ timed-kept T T′ hs e w g k ih u t s h r = go (into-cases u t e)
         rw (← o) (by-edge (k .now .edge-new) l (λ a x c _. inv-kept k .time-in c))
 
     -- it does not, by t
-    other : (e .target .0 ≡ u → e .time ≤ t → ⊥) → IsIntake T′ s t (latestTime u t (keptEvents hs))
+    other : (e .target .0 ≡ u → e .time ≤ t → ⊥) → IsIntake T′ s t (intakeTime u t hs)
     other n = stays (k .now .start-old s (starts-in (k .was) m z)) (λ a x y. k .now .edge-old y) (λ a x y l. new a x l (k .now .edge-inv y)) (ih u t s m z)
       where
         late : (e .time ≤ t → ⊥) → t < e .time
@@ -89,12 +87,13 @@ timed-kept T T′ hs e w g k ih u t s h r = go (into-cases u t e)
         new a x l (inl o) = o
         new a x l (inr o) = absurd (not-w (o .1) (omega (arith, o .2)) (kept-latest k u m))
 
-    go : IntoCase u t e → IsIntake T′ s t (cond (into u t e) (e .time) (latestTime u t (keptEvents hs)))
+    go : IntoCase u t e → IsIntake T′ s t (cond (into u t e) (e .time) (intakeTime u t hs))
     go (inl c) = rw (c .2) (now (c .0) (c .1))
     go (inr c) = rw (c .1) (other (c .0))
 
 timed : {T : Trail} {hs : List Item} → Grown T hs → Timed T hs
+unfolding intakeTime
 timed g = grown-ind Timed (λ T x _ _ u t s h. absurd (omega arith)) timed-declared (λ T hs e g f l ih. ih) timed-kept g
 
-pub intake-is-latest : {T : Trail} {hs : List Item} → Grown T hs → (u t s : ℕ) → u < ne T → StartsAt T u t s → IntakeTime u t hs (intakeOf T s t)
-intake-is-latest {T} {hs} g u t s h r = rw (intake-one T s t (intakeOf-is T s t) (timed g u t s h r)) (latestTime-is u t hs)
+pub intake-is-latest : {T : Trail} {hs : List Item} → Grown T hs → (u t s : ℕ) → u < ne T → StartsAt T u t s → intakeOf T s t ≡ intakeTime u t hs
+intake-is-latest {T} g u t s h r = intake-one T s t (intakeOf-is T s t) (timed g u t s h r)

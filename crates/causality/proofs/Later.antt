@@ -8,9 +8,9 @@ use mathlib.Core.List.{List, [], _∷_, _++_}
 use lib.Dec.{leb}
 use borrow.Author.Tests.{le-leb}
 use Rattle.record.specs.declared.Event.{Event}
-use Rattle.rules.specs.History.{Item, kept, dropped, accepted}
+use Rattle.rules.specs.History.{Item, kept, dropped, accepted, into, since}
 use Rattle.causality.specs.Working.{lastOf}
-use Rattle.causality.specs.Order.{Part, done, skip, take, upTo, above, into, since, All}
+use Rattle.causality.specs.Order.{Part, done, skip, take, upTo, above, All}
 use Rattle.causality.proofs.Reach.{All-imp}
 use Rattle.causality.proofs.Parts.{IntoCase, into-cases, upTo-out}
 use Rattle.causality.proofs.Accepted.{Ordered}

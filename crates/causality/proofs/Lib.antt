@@ -18,7 +18,6 @@ pub mod Ancestors
 pub mod Backward
 pub mod Later
 pub mod Log
-pub mod IntakeTime
 pub mod Intake
 pub mod Strict
 pub mod PathsBy

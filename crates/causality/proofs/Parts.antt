@@ -2,15 +2,15 @@
 use Prim.Native.Nat.{ℕ, _≤_, _<_}
 use native.Mathlib.Omega.{arith}
 use mathlib.Core.Path.{_≡_, refl, _∙_, ap}
-use mathlib.Core.Logic.{_⊎_, inl, inr}
+use mathlib.Core.Logic.{_⊎_, ⊎-elim}
 use mathlib.Core.Bool.{Bool, true, false, cond}
-use mathlib.Core.List.{List, [], _∷_, _++_}
+use mathlib.Core.List.{List, [], _∷_}
 use lib.Dec.{leb}
 use borrow.Author.Tests.{leb-true, le-leb}
 use Rattle.record.specs.declared.Event.{Event}
-use Rattle.rules.specs.History.{Item, kept, dropped, accepted, NoIntake, LatestIntake}
+use Rattle.rules.specs.History.{Item, kept, dropped, accepted, into, since, intakeTime}
 use Rattle.rules.proofs.Intake.{by-cases}
-use Rattle.causality.specs.Order.{Part, done, skip, take, upTo, into, since, All}
+use Rattle.causality.specs.Order.{Part, done, skip, take, upTo, All}
 use Rattle.causality.proofs.Reach.{part-nil}
 
 -- an event enters u by t, or it does not
@@ -21,20 +21,6 @@ IntoCase u t e =
 pub into-cases : (u t : ℕ) (e : Event) → IntoCase u t e
 unfolding into
 into-cases u t e = by-cases (e .target .0) u (e .time) t
-
-pub into-true : (u t : ℕ) (e : Event) → e .target .0 ≡ u → e .time ≤ t → into u t e ≡ true
-into-true u t e p q = go (into-cases u t e)
-  where
-    go : IntoCase u t e → into u t e ≡ true
-    go (inl c) = c .2
-    go (inr c) = absurd (c .0 p q)
-
-pub into-false : (u t : ℕ) (e : Event) → (e .target .0 ≡ u → e .time ≤ t → ⊥) → into u t e ≡ false
-into-false u t e n = go (into-cases u t e)
-  where
-    go : IntoCase u t e → into u t e ≡ false
-    go (inl c) = absurd (n (c .0) (c .1))
-    go (inr c) = c .1
 
 -- the events by t
 pub upTo-in : (t : ℕ) (e : Event) (es : List Event) → e .time ≤ t → upTo t (e ∷ es) ≡ e ∷ upTo t es
@@ -62,22 +48,25 @@ upTo-part t (e ∷ es) = go (leb (e .time) t) (upTo-part t es)
     go true s = take s
     go false s = skip s
 
--- the events after the latest kept intake
-pub since-none : (u t : ℕ) (hs : List Item) → NoIntake u t hs → since u t hs ≡ accepted hs
-unfolding since
-since-none u t [] n = refl
-since-none u t (dropped e ∷ hs) n = ap (λ (l : List Event). e ∷ l) (since-none u t hs n)
-since-none u t (kept e ∷ hs) n = rw (into-false u t e (n .0)) (ap (λ (l : List Event). e ∷ l) (since-none u t hs (n .1)))
+-- where no accepted event enters u by t, all are after its latest kept intake, and its time is 0
+module _ (u t : ℕ) where
+  abbrev NotInto : Event → Type 0
+  NotInto e = e .target .0 ≡ u → e .time ≤ t → ⊥
 
-module _ (u t : ℕ) (e : Event) (earlier : List Item) (enters : e .target .0 ≡ u) (by : e .time ≤ t) where
-  since-at : (later : List Item) → NoIntake u t later → since u t (later ++ (kept e ∷ earlier)) ≡ accepted later
+  into-false : (e : Event) → NotInto e → into u t e ≡ false
+  into-false e n = ⊎-elim (λ c. absurd (n (c .0) (c .1))) (λ c. c .1) (into-cases u t e)
+
+  pub since-all : (hs : List Item) → All NotInto (accepted hs) → since u t hs ≡ accepted hs
   unfolding since
-  since-at [] n = rw (into-true u t e enters by)
-  since-at (dropped d ∷ later) n = ap (λ (l : List Event). d ∷ l) (since-at later n)
-  since-at (kept d ∷ later) n = rw (into-false u t d (n .0)) (ap (λ (l : List Event). d ∷ l) (since-at later (n .1)))
+  since-all [] n = refl
+  since-all (dropped e ∷ hs) n = ap (λ (l : List Event). e ∷ l) (since-all hs (n .1))
+  since-all (kept e ∷ hs) n = rw (into-false e (n .0)) (ap (λ (l : List Event). e ∷ l) (since-all hs (n .1)))
 
-pub since-intake : {u t : ℕ} {hs : List Item} (l : LatestIntake u t hs) → since u t hs ≡ accepted (l .later)
-since-intake {u} {t} l = ap (since u t) (l .split) ∙ since-at u t (l .intake) (l .earlier) (l .enters) (l .by) (l .later) (l .latest)
+  pub intakeTime-none : (hs : List Item) → All NotInto (accepted hs) → intakeTime u t hs ≡ 0
+  unfolding intakeTime
+  intakeTime-none [] n = refl
+  intakeTime-none (dropped e ∷ hs) n = intakeTime-none hs (n .1)
+  intakeTime-none (kept e ∷ hs) n = rw (into-false e (n .0)) (intakeTime-none hs (n .1))
 
 pub since-part : (u t : ℕ) (hs : List Item) → Part (since u t hs) (accepted hs)
 unfolding since
@@ -88,30 +77,3 @@ since-part u t (kept e ∷ hs) = go (into u t e) (since-part u t hs)
     go : (b : Bool) → Part (since u t hs) (accepted hs) → Part (cond b [] (e ∷ since u t hs)) (e ∷ accepted hs)
     go true s = part-nil (e ∷ accepted hs)
     go false s = take s
-
--- there is a latest kept intake, or none
-next-intake : {u t : ℕ} {hs : List Item} (h : Item) (l : LatestIntake u t hs) → NoIntake u t (h ∷ l .later) → LatestIntake u t (h ∷ hs)
-next-intake h l n =
-    record {
-      later = h ∷ l .later;
-      intake = l .intake;
-      earlier = l .earlier;
-      split = ap (λ (x : List Item). h ∷ x) (l .split);
-      enters = l .enters;
-      by = l .by;
-      latest = n;
-    }
-
-pub latest-intake : (u t : ℕ) (hs : List Item) → LatestIntake u t hs ⊎ NoIntake u t hs
-latest-intake u t [] = inr tt
-latest-intake u t (dropped e ∷ hs) = go (latest-intake u t hs)
-  where
-    go : LatestIntake u t hs ⊎ NoIntake u t hs → LatestIntake u t (dropped e ∷ hs) ⊎ NoIntake u t hs
-    go (inl l) = inl (next-intake (dropped e) l (l .latest))
-    go (inr n) = inr n
-latest-intake u t (kept e ∷ hs) = go (into-cases u t e) (latest-intake u t hs)
-  where
-    go : IntoCase u t e → LatestIntake u t hs ⊎ NoIntake u t hs → LatestIntake u t (kept e ∷ hs) ⊎ NoIntake u t (kept e ∷ hs)
-    go (inl c) s = inl (record { later = []; intake = e; earlier = hs; split = refl; enters = c .0; by = c .1; latest = tt })
-    go (inr c) (inl l) = inl (next-intake (kept e) l (c .0, l .latest))
-    go (inr c) (inr n) = inr (c .0, n)

@@ -1,21 +1,21 @@
 -- The proof of what Statements claims.
 use Prim.Native.Nat.{ℕ, _<_}
-use mathlib.Core.Path.{_≡_, sym, subst}
-use mathlib.Core.Logic.{_⊎_, inl, inr, _↔_, Iff·trans, Iff·symm}
+use mathlib.Core.Path.{_≡_, subst}
+use mathlib.Core.Logic.{_↔_, Iff·trans, Iff·symm}
 use mathlib.Core.List.{List, _∷_, _++_}
 use Rattle.record.specs.declared.Event.{Event}
 use Rattle.rules.specs.Trail.{Trail}
-use Rattle.rules.specs.Paths.{CausalPath, Gains}
-use Rattle.rules.specs.History.{Item, dropped, accepted, NoIntake, LatestIntake, Reached, fromIntake, fromZero}
+use Rattle.rules.specs.Paths.{Gains}
+use Rattle.rules.specs.History.{Item, dropped, accepted, since, Reached}
 use Rattle.rules.specs.Start.{StartVersion}
 use Rattle.rules.specs.Backward.{BackwardMarks}
 use Rattle.rules.specs.Forward.{ForwardMarks}
 use Rattle.rules.proofs.Start.{start-one}
 use Rattle.causality.specs.Working.{ne, EntityMarked, Grown}
-use Rattle.causality.specs.Order.{OrderPath, upTo, above, since, Falling}
+use Rattle.causality.specs.Order.{OrderPath, upTo, above, Falling}
 use Rattle.causality.specs.Statements.{Faithful, Stable, Document01, Claims}
 use Rattle.causality.proofs.Reach.{reach-path, reach-part}
-use Rattle.causality.proofs.Parts.{upTo-part, since-part, since-none, since-intake, latest-intake}
+use Rattle.causality.proofs.Parts.{upTo-part, since-part}
 use Rattle.causality.proofs.Accepted.{grown-ordered}
 use Rattle.causality.proofs.Start.{start-some, version-walk}
 use Rattle.causality.proofs.Forward.{forward-reach}
@@ -43,9 +43,6 @@ faithful {T} {hs} g =
       start-one = λ x t s r p q. start-one p q;
       backward = λ v t s x h r. Iff·trans (backward-reach g t x v s h (version-walk g h r)) (reach-path (upTo t (accepted hs)) x v);
       forward = λ u t s y h r. Iff·trans (forward-reach g u t s y h (version-walk g h r)) (reach-path (since u t hs) u y);
-      since-intake = λ u t l. since-intake l;
-      since-none = λ u t n. since-none u t hs n;
-      latest = λ u t. latest-intake u t hs;
       intake = λ u t s h r. intake-is-latest g u t s h (version-walk g h r);
       never-less = λ u t s y h r p.
           forward-reach g u t s y h (version-walk g h r) .1
@@ -63,17 +60,6 @@ stable {T} {T′} hs more g g′ v t s r x h h′ p p′ l =
 
 -- document 01, where times rise strictly
 
-reached : (u t : ℕ) (hs : List Item) (y : ℕ) → CausalPath (since u t hs) u y ↔ Reached u t hs y
-reached u t hs y = (to (latest-intake u t hs), from)
-  where
-    to : LatestIntake u t hs ⊎ NoIntake u t hs → CausalPath (since u t hs) u y → Reached u t hs y
-    to (inl l) p = fromIntake l (subst (λ es. CausalPath es u y) (since-intake l) p)
-    to (inr n) p = fromZero n (subst (λ es. CausalPath es u y) (since-none u t hs n) p)
-
-    from : Reached u t hs y → CausalPath (since u t hs) u y
-    from (fromIntake l p) = subst (λ es. CausalPath es u y) (sym (since-intake l)) p
-    from (fromZero n p) = subst (λ es. CausalPath es u y) (sym (since-none u t hs n)) p
-
 causal-gain : {T : Trail} {hs : List Item} → Grown T hs → Falling (accepted hs) → (later earlier : List Item) (e : Event) (x : ℕ)
     → hs ≡ later ++ (dropped e ∷ earlier) → Gains (accepted earlier) e x → ⊥
 causal-gain {hs = hs} g f later earlier e x q ((other, p), none) =
@@ -89,14 +75,12 @@ document {T} {hs} g f =
           (Iff·trans (order-causal (upTo t (accepted hs)) (falling-part (upTo-part t (accepted hs)) f) x v) (causal-by t (accepted hs) x v));
       forward = forward;
       intake = faithful g .intake;
-      never-less = λ u t s y h r p. forward u t s y h r .1 (reached u t hs y .0 (from-since g f u t y p));
+      never-less = λ u t s y h r p. forward u t s y h r .1 (from-since g f u t y p);
       gain = causal-gain g f;
     }
   where
     forward : (u t s y : ℕ) → u < ne T → StartVersion T u t s → EntityMarked T (ForwardMarks T s) y ↔ Reached u t hs y
-    forward u t s y h r =
-        Iff·trans (faithful g .forward u t s y h r)
-        (Iff·trans (order-causal (since u t hs) (falling-part (since-part u t hs) f) u y) (reached u t hs y))
+    forward u t s y h r = Iff·trans (faithful g .forward u t s y h r) (order-causal (since u t hs) (falling-part (since-part u t hs) f) u y)
 
 pub claims : Claims
 claims = record { any-working = faithful; stable = stable; document01 = document }

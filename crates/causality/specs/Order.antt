@@ -1,12 +1,11 @@
--- Causal paths by the order of acceptance, in lists of events, the last accepted first; and the parts of such a list that
--- a trace speaks of.
+-- Causal paths by the order of acceptance, in lists of events, the last accepted first; and the parts of such a list by
+-- a time.
 use Prim.Native.Nat.{ℕ, _<_}
-use mathlib.Core.Bool.{Bool, _&&_, cond}
+use mathlib.Core.Bool.{cond}
 use mathlib.Core.List.{List, [], _∷_, reverse}
-use lib.Dec.{leb, eqb}
+use lib.Dec.{leb}
 use Rattle.record.specs.declared.Event.{Event}
 use Rattle.rules.specs.Paths.{Links}
-use Rattle.rules.specs.History.{Item, kept, dropped}
 
 -- a list with some of its events left out
 pub data Part : List Event → List Event → Type 0 where
@@ -28,16 +27,6 @@ upTo t (e ∷ es) = cond (leb (e .time) t) (e ∷ upTo t es) (upTo t es)
 unfoldable pub above : ℕ → List Event → List Event
 above t [] = []
 above t (e ∷ es) = cond (leb (e .time) t) (above t es) (e ∷ above t es)
-
--- e enters u by t
-unfoldable pub into : ℕ → ℕ → Event → Bool
-into u t e = eqb (e .target .0) u && leb (e .time) t
-
--- the events accepted after the latest kept intake of u at or before t; all events if there is none
-unfoldable pub since : ℕ → ℕ → List Item → List Event
-since u t [] = []
-since u t (kept e ∷ hs) = cond (into u t e) [] (e ∷ since u t hs)
-since u t (dropped e ∷ hs) = e ∷ since u t hs
 
 -- of each event
 abbrev pub All : (Event → Type 0) → List Event → Type 0

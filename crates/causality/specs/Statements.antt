@@ -8,12 +8,12 @@ use Rattle.record.specs.declared.Event.{Event}
 use Rattle.record.specs.Layout.{kindNo}
 use Rattle.rules.specs.Trail.{Trail, ownerOf}
 use Rattle.rules.specs.Paths.{PathBy, PathFrom, Gains}
-use Rattle.rules.specs.History.{Item, dropped, accepted, keptEvents, NoIntake, LatestIntake, Reached, IntakeTime}
+use Rattle.rules.specs.History.{Item, dropped, accepted, keptEvents, since, intakeTime, Reached}
 use Rattle.rules.specs.Start.{StartVersion, intakeOf}
 use Rattle.rules.specs.Backward.{BackwardMarks}
 use Rattle.rules.specs.Forward.{ForwardMarks}
 use Rattle.causality.specs.Working.{ne, nv, nd, EntityMarked, lastOf, Grown}
-use Rattle.causality.specs.Order.{OrderPath, upTo, above, since, Falling}
+use Rattle.causality.specs.Order.{OrderPath, upTo, above, Falling}
 
 -- edge k is the one kept for e
 pub record EdgeFor (T : Trail) (k : ℕ) (e : Event) : Type 0 where
@@ -36,12 +36,8 @@ pub record Faithful (T : Trail) (hs : List Item) : Type 0 where
   pub backward : (v t s x : ℕ) → v < ne T → StartVersion T v t s → EntityMarked T (BackwardMarks T s t) x ↔ OrderPath (upTo t (accepted hs)) x v
   -- forward from u at t: the causal paths from u through events accepted after its latest kept intake at or before t
   pub forward : (u t s y : ℕ) → u < ne T → StartVersion T u t s → EntityMarked T (ForwardMarks T s) y ↔ OrderPath (since u t hs) u y
-  -- those events, by that intake; there is one or none
-  pub since-intake : (u t : ℕ) (l : LatestIntake u t hs) → since u t hs ≡ accepted (l .later)
-  pub since-none : (u t : ℕ) → NoIntake u t hs → since u t hs ≡ accepted hs
-  pub latest : (u t : ℕ) → LatestIntake u t hs ⊎ NoIntake u t hs
   -- the intake that forward gives is its time, 0 if there is none
-  pub intake : (u t s : ℕ) → u < ne T → StartVersion T u t s → IntakeTime u t hs (intakeOf T s t)
+  pub intake : (u t s : ℕ) → u < ne T → StartVersion T u t s → intakeOf T s t ≡ intakeTime u t hs
   -- never less than the paths through events later than t; times may be equal here
   pub never-less : (u t s y : ℕ) → u < ne T → StartVersion T u t s → OrderPath (above t (accepted hs)) u y → EntityMarked T (ForwardMarks T s) y
   -- a dropped event gives its target no causal path that it had not
@@ -63,7 +59,7 @@ Stable T hs T′ more =
 pub record Document01 (T : Trail) (hs : List Item) : Type 0 where
   pub backward : (v t s x : ℕ) → v < ne T → StartVersion T v t s → EntityMarked T (BackwardMarks T s t) x ↔ PathBy (accepted hs) t x v
   pub forward : (u t s y : ℕ) → u < ne T → StartVersion T u t s → EntityMarked T (ForwardMarks T s) y ↔ Reached u t hs y
-  pub intake : (u t s : ℕ) → u < ne T → StartVersion T u t s → IntakeTime u t hs (intakeOf T s t)
+  pub intake : (u t s : ℕ) → u < ne T → StartVersion T u t s → intakeOf T s t ≡ intakeTime u t hs
   -- "a forward answer may hold more than the full log's answer at t, never less"
   pub never-less : (u t s y : ℕ) → u < ne T → StartVersion T u t s → PathFrom (accepted hs) t u y → EntityMarked T (ForwardMarks T s) y
   -- no entity gains an ancestor by a dropped event

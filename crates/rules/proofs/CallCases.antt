@@ -1,10 +1,11 @@
 -- The plain list: every row is computed by the definitions, from the bytes of the file.
 use mathlib.Core.Path.{refl}
+use Rattle.rules.specs.History.{into, since, intakeTime}
 use Rattle.rules.specs.CallCases.{CallCases}
 use Rattle.rules.proofs.Computed.{computed}
 
 pub callCases : CallCases
-unfolding computed
+unfolding computed into since intakeTime
 callCases = record {
   all-added = refl;
   added-to-refused = refl;
@@ -12,6 +13,8 @@ callCases = record {
   first-added = refl;
   accepted-times = refl;
   kept-times = refl;
+  since-times = refl;
+  intake-times = refl;
   worked-counts = refl;
   worked-entities = refl;
   worked-versions = refl;

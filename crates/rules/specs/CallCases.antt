@@ -9,7 +9,7 @@ use Rattle.record.specs.declared.Event.{Event}
 use Rattle.record.specs.declared.Record.{Record}
 use Rattle.record.specs.declared.Record.the-variants as records
 use Rattle.rules.specs.Trail.{Tables, capacityOf, counts, none}
-use Rattle.rules.specs.History.{accepted, keptEvents}
+use Rattle.rules.specs.History.{accepted, keptEvents, since, intakeTime}
 use Rattle.rules.specs.PlainList.{worked, itemsOf, addedBy}
 use Rattle.rules.specs.Calls.{Call, batch, backward, forward, heldAfter, plainAfter}
 use Rattle.rules.specs.Worked.{header, file, room, batch as workedBatch}
@@ -38,6 +38,11 @@ pub record CallCases : Type 0 where
   -- "The accepted events .. and the kept events", the last first
   pub accepted-times : timesOf (accepted (itemsOf (plain 8))) ≡ 7 ∷ 6 ∷ 5 ∷ 4 ∷ 3 ∷ 2 ∷ 1 ∷ []
   pub kept-times : timesOf (keptEvents (itemsOf (plain 8))) ≡ 6 ∷ 5 ∷ 2 ∷ 1 ∷ []
+  -- "The latest at or before t is the last accepted of those with time ≤ t": of the stager at 0, 4 and 5, the events accepted after it,
+  -- and its time; the event into the stager at 3 is not kept
+  pub since-times : map (λ t. timesOf (since 1 t (itemsOf (plain 8)))) (0 ∷ 4 ∷ 5 ∷ [])
+      ≡ (7 ∷ 6 ∷ 5 ∷ 4 ∷ 3 ∷ 2 ∷ 1 ∷ []) ∷ (7 ∷ 6 ∷ 5 ∷ 4 ∷ 3 ∷ 2 ∷ []) ∷ (7 ∷ 6 ∷ []) ∷ []
+  pub intake-times : map (λ t. intakeTime 1 t (itemsOf (plain 8))) (0 ∷ 4 ∷ 5 ∷ []) ≡ 0 ∷ 1 ∷ 5 ∷ []
   -- "the rows and counts that the records already in the plain list give when worked from none"
   pub worked-counts : worked (plain 8) .counts ≡ counts 4 5 4 7 7
   pub worked-entities : map (worked (plain 8) .entity) (0 ∷ 1 ∷ 2 ∷ 3 ∷ []) ≡ entityRow 0 0 ∷ entityRow 1 4 ∷ entityRow 0 2 ∷ entityRow 0 3 ∷ []
