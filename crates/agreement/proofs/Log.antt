@@ -5,35 +5,21 @@ use native.Mathlib.Decide.{ℕ-discrete}
 use mathlib.Core.Path.{_≡_, refl, sym, _∙_, ap}
 use mathlib.Core.List.{List, [], _∷_, _++_, append-nil, append-assoc, reverse, reverseAux, reverseAux-append}
 use lib.ListN.{length}
-use Rattle.rows.specs.Rows.{entityNo}
 use Rattle.record.specs.declared.Event.{Event}
 use Rattle.record.specs.declared.Record.{Record}
-use Rattle.record.specs.declared.Record.the-variants as records
-use Rattle.record.specs.Layout.{kindOf}
-use Rattle.record.proofs.Numbers.{kindOf-kindNo}
 use Rattle.rules.specs.Trail.{Trail}
 use Rattle.rules.specs.KeptLog.{declarationRecord, eventRecord}
-use Rattle.causality.specs.Statements.{EdgeFor, Logged}
+use Rattle.causality.specs.Statements.{Logged}
 use Rattle.kept_log.specs.LogRecords.{recordsBelow, logRecords}
 use Rattle.agreement.proofs.Relogged.{descending, relogged}
 
--- edge k as an event is the one that it was kept for
-event-is : (T : Trail) (k : ℕ) (e : Event) → EdgeFor T k e → eventRecord T k ≡ records.Event e
-event-is T k e f = λ j.
-    records.Event (record {
-      kind = (ap kindOf (f .kind) ∙ kindOf-kindNo (e .kind)) j;
-      source = entityNo (f .source j);
-      target = entityNo (f .target j);
-      time = f .time j;
-    })
-
--- two trails whose edges are for the same events
+-- two trails whose edges are the same events
 pub events-same : (T U : Trail) (ks : List Event) → Logged T ks → Logged U ks → (k : ℕ) → k < length ks → eventRecord U k ≡ eventRecord T k
 events-same T U [] a b k l = absurd (omega arith)
 events-same T U (e ∷ ks) a b k l = go (ℕ-discrete k (length ks)) (λ h. events-same T U ks (a .1) (b .1) k h)
   where
     go : Dec (k ≡ length ks) → (k < length ks → eventRecord U k ≡ eventRecord T k) → eventRecord U k ≡ eventRecord T k
-    go (yes q) ih = rw q (event-is U (length ks) e (b .0) ∙ sym (event-is T (length ks) e (a .0)))
+    go (yes q) ih = rw q (b .0 ∙ sym (a .0))
     go (no q) ih = ih (omega arith)
 
 recordsBelow-reverse : (f : ℕ → Record) (n : ℕ) (more : List Record) → recordsBelow f n ++ more ≡ reverseAux (descending f n) more
@@ -43,7 +29,7 @@ recordsBelow-reverse f (suc n) more = append-assoc (recordsBelow f n) (f n ∷ [
 
 relogged-is : (T : Trail) (ks : List Event) → Logged T ks → relogged T ks ≡ descending (eventRecord T) (length ks) ++ descending (declarationRecord T) (T .counts .entities)
 relogged-is T [] a = refl
-relogged-is T (e ∷ ks) a = λ j. sym (event-is T (length ks) e (a .0)) j ∷ relogged-is T ks (a .1) j
+relogged-is T (e ∷ ks) a = λ j. sym (a .0) j ∷ relogged-is T ks (a .1) j
 
 pub logRecords-reverse : (T : Trail) (ks : List Event) → T .counts .edges ≡ length ks → Logged T ks → logRecords T ≡ reverse (relogged T ks)
 unfolding logRecords

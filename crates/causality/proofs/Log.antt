@@ -1,15 +1,20 @@
 -- The edges are the kept events in order; versions are no more than entities and edges.
 use Prim.Native.Nat.{ℕ, suc, _+_, _≤_, _<_}
 use native.Mathlib.Omega.{arith}
-use mathlib.Core.Path.{_≡_, _∙_, ap, subst}
+use mathlib.Core.Path.{_≡_, refl, sym, _∙_, ap}
 use mathlib.Core.Logic.{_⊎_, inl, inr}
 use mathlib.Core.List.{List, [], _∷_}
 use lib.ListN.{length}
+use Rattle.rows.specs.Rows.{entityNo}
 use Rattle.record.specs.declared.Event.{Event}
+use Rattle.record.specs.declared.Record.the-variants as records
+use Rattle.record.specs.Layout.{kindOf}
+use Rattle.record.proofs.Numbers.{kindOf-kindNo}
 use Rattle.rules.specs.Trail.{Trail, ownerOf}
 use Rattle.rules.specs.History.{Item, keptEvents}
+use Rattle.rules.specs.KeptLog.{eventRecord}
 use Rattle.causality.specs.Working.{ne, nv, nd, Keeps, Wide, New, Grown}
-use Rattle.causality.specs.Statements.{EdgeFor, Logged}
+use Rattle.causality.specs.Statements.{Logged}
 use Rattle.causality.proofs.Invariant.{Inv}
 use Rattle.causality.proofs.Kept.{Kept, source-now}
 use Rattle.causality.proofs.Growth.{inv, grown-ind, OnDeclared, OnKept}
@@ -22,10 +27,10 @@ pub edge-count : {T : Trail} {hs : List Item} → Grown T hs → nd T ≡ length
 edge-count g =
     grown-ind EdgeCount (λ T _ _ d. d) (λ T T′ hs g d ih. d .row .nd-is ∙ ih) (λ T hs e g f l ih. ih) (λ T T′ hs e w g k ih. k .now .row .nd-is ∙ ap suc ih) g
 
--- edges that stand are for the same events
+-- edges that stand are the same events
 logged-stands : {T T′ : Trail} {last : ℕ} → Inv T last → Keeps T T′ → (ks : List Event) → length ks ≤ nd T → Logged T ks → Logged T′ ks
 logged-stands i o [] h a = tt
-logged-stands {T} {T′} i o (e ∷ ks) h a = (edge, logged-stands i o ks (omega arith) (a .1))
+logged-stands {T} {T′} i o (e ∷ ks) h a = (same ∙ a .0, logged-stands i o ks (omega arith) (a .1))
   where
     n : ℕ
     n = length ks
@@ -33,24 +38,25 @@ logged-stands {T} {T′} i o (e ∷ ks) h a = (edge, logged-stands i o ks (omega
     m : n < nd T
     m = omega arith
 
-    edge : EdgeFor T′ n e
-    edge =
-        record {
-          source = ap (ownerOf T′) (o .from-old n m) ∙ o .owner-old _ (i .from-in (edge-at n m (λ _. T .edge n .to .0))) ∙ a .0 .source;
-          target = ap (ownerOf T′) (o .to-old n m) ∙ o .owner-old _ (i .to-in (edge-at n m (λ _. T .edge n .to .0))) ∙ a .0 .target;
-          kind = o .kind-old n m ∙ a .0 .kind;
-          time = o .time-old n m ∙ a .0 .time;
-        }
+    same : eventRecord T′ n ≡ eventRecord T n
+    same = λ j.
+        records.Event (record {
+          kind = kindOf (o .kind-old n m j);
+          source = entityNo ((ap (ownerOf T′) (o .from-old n m) ∙ o .owner-old _ (i .from-in (edge-at n m refl))) j);
+          target = entityNo ((ap (ownerOf T′) (o .to-old n m) ∙ o .owner-old _ (i .to-in (edge-at n m refl))) j);
+          time = o .time-old n m j;
+        })
 
 -- the edge of a kept event
-new-edge : {T T′ : Trail} {last : ℕ} {e : Event} {w : ℕ} → Kept T T′ last e w → EdgeFor T′ (nd T) e
-new-edge {T} {T′} k =
-    record {
-      source = ap (ownerOf T′) (k .now .row .from-new) ∙ k .now .owner-old _ (source-now k) ∙ k .was .latest-owner _ (k .fit .source-in);
-      target = ap (ownerOf T′) (k .now .row .to-new) ∙ k .now .owner-w;
-      kind = k .now .row .kind-new;
-      time = k .now .row .time-new;
-    }
+new-edge : {T T′ : Trail} {last : ℕ} {e : Event} {w : ℕ} → Kept T T′ last e w → eventRecord T′ (nd T) ≡ records.Event e
+new-edge {T} {T′} {e = e} k = λ j.
+    let r = k .now .row in
+    records.Event (record {
+      kind = (ap kindOf (r .kind-new) ∙ kindOf-kindNo (e .kind)) j;
+      source = entityNo ((ap (ownerOf T′) (r .from-new) ∙ k .now .owner-old _ (source-now k) ∙ k .was .latest-owner _ (k .fit .source-in)) j);
+      target = entityNo ((ap (ownerOf T′) (r .to-new) ∙ k .now .owner-w) j);
+      time = r .time-new j;
+    })
 
 abbrev Log : Trail → List Item → Type 0
 Log T hs = Logged T (keptEvents hs)
@@ -63,7 +69,7 @@ logged g = grown-ind Log (λ T _ _ _. tt) decl (λ T hs e g f l ih. ih) keep g
 
     keep : OnKept Log
     keep T T′ hs e w g k ih = (
-      subst (λ n. EdgeFor T′ n e) (edge-count g) (new-edge k),
+      ap (eventRecord T′) (sym (edge-count g)) ∙ new-edge k,
       logged-stands (inv g) (k .now .row .old) (keptEvents hs) (omega (arith, edge-count g)) ih,
     )
 

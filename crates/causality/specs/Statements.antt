@@ -5,27 +5,21 @@ use mathlib.Core.Logic.{_⊎_, _↔_}
 use mathlib.Core.List.{List, [], _∷_, _++_}
 use lib.ListN.{length}
 use Rattle.record.specs.declared.Event.{Event}
-use Rattle.record.specs.Layout.{kindNo}
-use Rattle.rules.specs.Trail.{Trail, ownerOf}
+use Rattle.record.specs.declared.Record.the-variants as records
+use Rattle.rules.specs.Trail.{Trail}
 use Rattle.rules.specs.Paths.{PathBy, PathFrom, Gains}
 use Rattle.rules.specs.History.{Item, dropped, accepted, keptEvents, since, intakeTime, Reached}
 use Rattle.rules.specs.Start.{StartVersion, intakeOf}
 use Rattle.rules.specs.Backward.{BackwardMarks}
 use Rattle.rules.specs.Forward.{ForwardMarks}
+use Rattle.rules.specs.KeptLog.{eventRecord}
 use Rattle.causality.specs.Working.{ne, nv, nd, EntityMarked, lastOf, Grown}
 use Rattle.causality.specs.Order.{OrderPath, upTo, above, Falling}
 
--- edge k is the one kept for e
-pub record EdgeFor (T : Trail) (k : ℕ) (e : Event) : Type 0 where
-  pub source : ownerOf T (T .edge k .from .0) ≡ e .source .0
-  pub target : ownerOf T (T .edge k .to .0) ≡ e .target .0
-  pub kind : T .edge k .kind ≡ kindNo (e .kind)
-  pub time : T .edge k .time ≡ e .time
-
--- each kept event has the edge whose number says how many were kept before it
+-- each kept event is, as an event, the edge whose number says how many were kept before it
 abbrev pub Logged : Trail → List Event → Type 0
 Logged T [] = Unit {0}
-Logged T (e ∷ ks) = EdgeFor T (length ks) e × Logged T ks
+Logged T (e ∷ ks) = (eventRecord T (length ks) ≡ records.Event e) × Logged T ks
 
 -- By the order of acceptance, for any working; times do not fall, and may be equal
 pub record Faithful (T : Trail) (hs : List Item) : Type 0 where
