@@ -22,14 +22,14 @@ use Rattle.causality.proofs.Walk.{StartsAt, walk-last, walk-declared, s
 
 -- an edge that enters s by t, as an edge between versions, and the other way round
 enters-edge : {T : Trail} {s t k : ℕ} → Enters T s t k → EdgeIn T (T .edge k .from .0) s (T .edge k .time)
-enters-edge {k = k} e = record { number = k; inside = e .exists; from = refl; to = e .to; time = refl }
+enters-edge {k = k} (l, q, _) = record { number = k; inside = l; from = refl; to = q; time = refl }
 
 edge-enters : {T : Trail} {a s x t : ℕ} (h : EdgeIn T a s x) → x ≤ t → Enters T s t (h .number)
-edge-enters h l = record { exists = h .inside; to = h .to; by = omega (arith, h .time) }
+edge-enters h l = (h .inside, h .to, omega (arith, h .time))
 
 -- the intake where an edge enters s at time i, and none later by t
 by-edge : {T : Trail} {a s t i : ℕ} → EdgeIn T a s i → i ≤ t → ((b x : ℕ) → EdgeIn T b s x → x ≤ t → x ≤ i) → IsIntake T s t i
-by-edge h l most = IsIntake.greatest (h .number) (edge-enters h l) (sym (h .time)) (λ j d. most _ _ (enters-edge d) (d .by))
+by-edge h l most = IsIntake.greatest (h .number) (edge-enters h l) (sym (h .time)) (λ j d. most _ _ (enters-edge d) (d .2))
 
 -- the time of the latest kept intake is the intake of the start version
 abbrev Timed : Trail → List Item → Type 0
@@ -39,9 +39,9 @@ Timed T hs = (u t s : ℕ) → u < ne T → StartsAt T u t s → IsIntake T s t 
 stays : {T T′ : Trail} {s t i : ℕ} → startTime T′ s ≡ startTime T s → ((a x : ℕ) → EdgeIn T a s x → EdgeIn T′ a s x)
     → ((a x : ℕ) → EdgeIn T′ a s x → x ≤ t → EdgeIn T a s x) → IsIntake T s t i → IsIntake T′ s t i
 stays {T} {s = s} q old new (IsIntake.greatest k e p b) =
-    by-edge (old _ _ (subst (EdgeIn T _ s) (sym p) (enters-edge e))) (omega (arith, e .by))
+    by-edge (old _ _ (subst (EdgeIn T _ s) (sym p) (enters-edge e))) (omega (arith, e .2))
     (λ a x h l. let o = new a x h l in omega (arith, b (o .number) (edge-enters o l), o .time))
-stays q old new (IsIntake.start n p) = IsIntake.start (λ k e. let o = new _ _ (enters-edge e) (e .by) in n (o .number) (edge-enters o (e .by))) (p ∙ sym q)
+stays q old new (IsIntake.start n p) = IsIntake.start (λ k e. let o = new _ _ (enters-edge e) (e .2) in n (o .number) (edge-enters o (e .2))) (p ∙ sym q)
 
 timed-declared : OnDeclared Timed
 timed-declared T T′ hs g d ih u t s h r = go (d .entity-inv u h)

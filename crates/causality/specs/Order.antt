@@ -1,5 +1,5 @@
--- Causal paths by the order of acceptance, in lists of events, the last accepted first; and the parts of such a list by
--- a time.
+-- Causal paths by the order of acceptance, in lists of events, the last accepted first; and the parts of such a list up to a time and
+-- after it.
 use Prim.Native.Nat.{ℕ, _<_}
 use mathlib.Core.Bool.{cond}
 use mathlib.Core.List.{List, [], _∷_, reverse}

@@ -16,7 +16,7 @@ use Rattle.rules.specs.KeptLog.{eventRecord}
 use Rattle.causality.specs.Working.{ne, nv, nd, EntityMarked, lastOf, Grown}
 use Rattle.causality.specs.Order.{OrderPath, upTo, above, Falling}
 
--- each kept event is, as an event, the edge whose number says how many were kept before it
+-- the edge whose number says how many events were kept before e is, as an event, e
 abbrev pub Logged : Trail → List Event → Type 0
 Logged T [] = Unit {0}
 Logged T (e ∷ ks) = (eventRecord T (length ks) ≡ records.Event e) × Logged T ks

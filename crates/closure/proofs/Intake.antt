@@ -26,5 +26,5 @@ pub intake-last : (T : Trail) → RowFacts T → (s t k : ℕ) → Enters T s t 
 intake-last T f s t k e n = intake-one T s t (intakeOf-is T s t) (IsIntake.greatest k e refl (λ j d. go j d (decLe j k)))
   where
     go : (j : ℕ) → Enters T s t j → Dec (j ≤ k) → T .edge j .time ≤ T .edge k .time
-    go j d (yes l) = times-rise T f j k l (e .exists)
+    go j d (yes l) = times-rise T f j k l (e .0)
     go j d (no l) = absurd (n j (omega arith) d)

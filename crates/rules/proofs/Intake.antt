@@ -63,7 +63,7 @@ module _ (T : Trail) (s t : ℕ) where
       go : Case n → Dec (k ≡ n) → (k < n → List·Memᴰ (T .edge k .time) (times n)) → List·Memᴰ (T .edge k .time) (cond (test n) (T .edge n .time ∷ times n) (times n))
       go (inl c) (yes q) ih = rw (c .2) (List·Memᴰ·head (ap (λ j. T .edge j .time) q))
       go (inl c) (no q) ih = rw (c .2) (List·Memᴰ·tail (ih (omega arith)))
-      go (inr c) (yes q) ih = let d = subst (Enters T s t) q e in absurd (c .0 (d .to) (d .by))
+      go (inr c) (yes q) ih = let d = subst (Enters T s t) q e in absurd (c .0 (d .1) (d .2))
       go (inr c) (no q) ih = rw (c .1) (ih (omega arith))
 
   time-enters : (n : ℕ) → n ≤ T .counts .edges → (y : ℕ) → List·Memᴰ y (times n) → Entered y
@@ -72,7 +72,7 @@ module _ (T : Trail) (s t : ℕ) where
   time-enters (suc n) l y m = go (by-cases _ _ _ _) m (time-enters n (omega arith) y)
     where
       go : Case n → List·Memᴰ y (cond (test n) (T .edge n .time ∷ times n) (times n)) → (List·Memᴰ y (times n) → Entered y) → Entered y
-      go (inl c) m ih = ⊎-elim (λ q. (n, record { exists = l; to = c .0; by = c .1 }, q)) ih (List·Memᴰ·cases-cons (rw (c .2) at m))
+      go (inl c) m ih = ⊎-elim (λ q. (n, (l, c .0, c .1), q)) ih (List·Memᴰ·cases-cons (rw (c .2) at m))
       go (inr c) m ih = ih (rw (c .1) at m)
 
   pub intakeOf-is : IsIntake T s t (intakeOf T s t)
@@ -80,7 +80,7 @@ module _ (T : Trail) (s t : ℕ) where
   intakeOf-is = go (times (T .counts .edges)) refl
     where
       in-times : (ts : List ℕ) → times (T .counts .edges) ≡ ts → (k : ℕ) → Enters T s t k → List·Memᴰ (T .edge k .time) ts
-      in-times ts q k e = subst (List·Memᴰ (T .edge k .time)) q (enters-time (T .counts .edges) k (e .exists) e)
+      in-times ts q k e = subst (List·Memᴰ (T .edge k .time)) q (enters-time (T .counts .edges) k (e .0) e)
 
       go : (ts : List ℕ) → times (T .counts .edges) ≡ ts → IsIntake T s t (greatestOr (T .version s .start) ts)
       go [] q = IsIntake.start (λ k e. List·Memᴰ·not-nil (in-times [] q k e)) refl

@@ -29,10 +29,8 @@ unfoldable pub startOf : Trail → ℕ → ℕ → ℕ
 startOf T x t = startFrom (T .version) t (T .counts .versions) (latestOf T x)
 
 -- edge k enters version s at time t or before
-pub record Enters (T : Trail) (s t k : ℕ) : Type 0 where
-  pub exists : k < T .counts .edges
-  pub to : T .edge k .to .0 ≡ s
-  pub by : T .edge k .time ≤ t
+abbrev pub Enters : Trail → ℕ → ℕ → ℕ → Type 0
+Enters T s t k = (k < T .counts .edges) × (T .edge k .to .0 ≡ s) × (T .edge k .time ≤ t)
 
 -- "the intake: the greatest time ≤ t of an edge entering the start version, else that version's start"
 pub data IsIntake (T : Trail) (s t i : ℕ) : Type 0 where

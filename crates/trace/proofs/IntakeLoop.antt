@@ -74,13 +74,13 @@ module _ (T : Trail) (f : RowFacts T) (s t : ℕ) where
       go : ByCase (T .edge k .to .0) s (T .edge k .time) t
           → (((j : ℕ) → k ≤ j → Enters T s t j → ⊥) → timeOr (T .edge) (T .version s .start) (lastInto (T .edge) s t k) ≡ intakeOf T s t)
           → timeOr (T .edge) (T .version s .start) (cond (entersBy s t (T .edge k)) (At (edgeNo k)) (lastInto (T .edge) s t k)) ≡ intakeOf T s t
-      go (inl c) ih = rw (c .2) (sym (intake-last T f s t k (record { exists = l; to = c .0; by = c .1 }) (λ j h. none j h)))
+      go (inl c) ih = rw (c .2) (sym (intake-last T f s t k (l, c .0, c .1) (λ j h. none j h)))
       go (inr c) ih = rw (c .1) (ih (λ j h. by j h (ℕ-discrete j k)))
         where
           by : (j : ℕ) → k ≤ j → Dec (j ≡ k) → Enters T s t j → ⊥
-          by j h (yes e) d = let i = subst (Enters T s t) e d in c .0 (i .to) (i .by)
+          by j h (yes e) d = let i = subst (Enters T s t) e d in c .0 (i .1) (i .2)
           by j h (no e) d = none j (omega arith) d
 
   pub lastIntake-is : lastIntake (T .version) (T .edge) s t (T .counts .edges) ≡ intakeOf T s t
   unfolding lastIntake
-  lastIntake-is = last-is (T .counts .edges) (omega arith) (λ j h e. let l = e .exists in omega arith)
+  lastIntake-is = last-is (T .counts .edges) (omega arith) (λ j h e. omega (arith, e .0))
