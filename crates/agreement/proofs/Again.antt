@@ -10,7 +10,7 @@ use Rattle.record.specs.declared.Declaration.{Declaration}
 use Rattle.record.specs.declared.Event.{Event}
 use Rattle.record.specs.declared.Record.{Record}
 use Rattle.record.specs.declared.Record.the-variants as records
-use Rattle.record.specs.Layout.{mostSort, kindNo}
+use Rattle.record.specs.Layout.{kindNo}
 use Rattle.rules.specs.declared.Decision.{Decision}
 use Rattle.rules.specs.declared.Decision.the-variants.{Repeat, Widen, Renew}
 use Rattle.rules.specs.Trail.{Capacity, Trail, fresh}
@@ -155,7 +155,7 @@ module _ (F : Trail) (cap : Capacity) (w : Within cap) (room : EnoughRows cap (F
   regrown-event T e Widen cap₀ g q p b r = regrown-kept T e Widen cap₀ g q refl p b r
   regrown-event T e Renew cap₀ g q p b r = regrown-kept T e Renew cap₀ g q refl p b r
 
-  module _ (low : (x : ℕ) → x < F .counts .entities → F .entity x .sort ≤ mostSort) where
+  module _ (low : (x : ℕ) → x < F .counts .entities → F .entity x .sort ≤ 1) where
     regrown-begun : Before fresh F → Regrown cap F fresh []
     regrown-begun b =
         let o = declares F cap room low (omega (arith, b .versions)) (F .counts .entities) (omega arith) in

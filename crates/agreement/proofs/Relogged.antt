@@ -9,7 +9,6 @@ use Rattle.rows.specs.declared.EntityRow.{EntityRow}
 use Rattle.record.specs.declared.Event.{Event}
 use Rattle.record.specs.declared.Record.{Record}
 use Rattle.record.specs.declared.Record.the-variants as records
-use Rattle.record.specs.Layout.{mostSort}
 use Rattle.rules.specs.Trail.{Capacity, Trail}
 use Rattle.rules.specs.Record.{refusalOf, changeOf}
 use Rattle.rules.specs.PlainList.{worked, itemsOf}
@@ -50,7 +49,7 @@ pub record Declared (cap : Capacity) (F : Trail) (n : ℕ) (rs : List Record) : 
   pub last : worked rs .counts .last ≡ 0
   pub sorts : (x : ℕ) → x < n → worked rs .entity x .sort ≡ F .entity x .sort
 
-module _ (F : Trail) (cap : Capacity) (room : EnoughRows cap (F .counts)) (low : (x : ℕ) → x < F .counts .entities → F .entity x .sort ≤ mostSort)
+module _ (F : Trail) (cap : Capacity) (room : EnoughRows cap (F .counts)) (low : (x : ℕ) → x < F .counts .entities → F .entity x .sort ≤ 1)
     (few : F .counts .entities ≤ F .counts .versions) where
   declares-next : (n : ℕ) (rs : List Record) → n < F .counts .entities → Declared cap F n rs → Declared cap F (suc n) (declarationRecord F n ∷ rs)
   unfolding refusalOf changeOf

@@ -12,7 +12,6 @@ use Rattle.rows.specs.declared.Counts.{Counts}
 use Rattle.rows.specs.declared.VersionRow.{VersionRow}
 use Rattle.rows.specs.Rows.{entityAt, versionAt}
 use Rattle.rows.specs.Capacity.{mostEntities}
-use Rattle.record.specs.Layout.{mostSort}
 use Rattle.rules.specs.Trail.{Trail, trailOf, tables}
 use Rattle.rules.specs.Sound.{allBelow, mayFollow, soundPrevious, soundVersion, versionTest}
 use Rattle.soundness.specs.Parts.{codeOf, Owners, VersionsReady}
@@ -42,7 +41,7 @@ module _ (c : Counts) (es vs : List ℕ) (k : ℕ) (v : VersionRow) (r : Bool) (
     pub owner-low : v .entity .0 < mostEntities
     owner-low = let l = owner-in in let m = f .entities-in in omega arith
 
-    pub owner-sort : entityAt es (v .entity .0) .sort ≤ mostSort
+    pub owner-sort : entityAt es (v .entity .0) .sort ≤ 1
     owner-sort = f .sorts _ owner-in
 
   module _ (q : v ≡ versionAt vs k) where

@@ -10,7 +10,7 @@ use Rattle.rows.specs.declared.EntityRow.{EntityRow}
 use Rattle.rows.specs.declared.EdgeRow.{EdgeRow}
 use Rattle.rows.specs.Rows.{entityAt}
 use Rattle.rows.specs.Capacity.{mostEntities, versionCapacity}
-use Rattle.record.specs.Layout.{mostKind, mostSort}
+use Rattle.record.specs.Layout.{mostKind}
 use Rattle.rules.specs.Trail.{Tables, Trail, capacityOf, trailOf, ownerOf}
 use Rattle.rules.specs.Sound.{every, allBelow, soundCounts, entityTest, sourceFits, targetFits, mayFollow, timeBefore}
 
@@ -32,7 +32,7 @@ pub record RowsReady (c : Counts) (t : Tables) (owners : List ℕ) : Type 0 wher
 pub record VersionsReady (c : Counts) (entities versions owners : List ℕ) : Type 0 where
   pub entities-in : c .entities ≤ mostEntities
   pub versions-in : c .versions ≤ versionCapacity versions
-  pub sorts : (x : ℕ) → x < c .entities → entityAt entities x .sort ≤ mostSort
+  pub sorts : (x : ℕ) → x < c .entities → entityAt entities x .sort ≤ 1
   pub room : c .versions ≤ length owners
 
 -- kind is one of an event, and asks for a source and a target of these sorts

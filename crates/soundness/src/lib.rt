@@ -14,7 +14,7 @@ ghost use Prim.Native.Nat.{_≤_, _<_, _%_};
 ghost use lib.ListN.{length};
 ghost use Rattle.rows.specs.Rows.{entityAt, versionAt, edgeAt};
 ghost use Rattle.rows.specs.Capacity.{mostEntities, versionCapacity, edgeCapacity};
-ghost use Rattle.record.specs.Layout.{mostKind, mostSort};
+ghost use Rattle.record.specs.Layout.{mostKind};
 ghost use Rattle.rules.specs.Trail.{tables, capacityOf, trailOf};
 ghost use Rattle.rules.specs.Sound.{allBelow, sourceFits, targetFits, soundCounts, soundEntity, soundPrevious, soundVersion, entityTest, versionTest, isSound};
 ghost use Rattle.soundness.specs.Parts.{codeOf, Owners, VersionsReady, RowsReady, sortsFit, soundCodes, codedEdge, codedTest};
@@ -112,7 +112,7 @@ fn version_ok(c: Counts, versions: &[u32], n: VersionNo, v: VersionRow) -> bool
 
 // The code of an entity: twice its number, and its sort.
 fn code(entities: &[u32], n: EntityNo) -> u16
-    requires { ⌜ (n .0 < mostEntities) × (entityAt (now entities) (n .0) .sort ≤ mostSort) ⌝ }
+    requires { ⌜ (n .0 < mostEntities) × (entityAt (now entities) (n .0) .sort ≤ 1) ⌝ }
     ensures { λ r. ⌜ r ≡ codeOf (entityAt (now (entities .entry))) (n .0) ⌝ }
 {
     (2 * n.0 + rows::entity_sort(entities, n)) as u16
