@@ -2,7 +2,6 @@
 use Prim.Native.Nat.{ℕ, _+_, _≤_, _<_}
 use native.Mathlib.Omega.{arith}
 use mathlib.Core.Path.{_≡_, refl, sym, _∙_, ap, subst}
-use mathlib.Core.Bool.{Bool, true, cond}
 use mathlib.Core.List.{List, [], _∷_}
 use Rattle.refusals.specs.declared.Checked.the-variants.{Passed}
 use Rattle.rows.specs.declared.EntityRow.{EntityRow}
@@ -15,12 +14,12 @@ use Rattle.rules.specs.declared.Decision.{Decision}
 use Rattle.rules.specs.declared.Decision.the-variants.{Repeat, Widen, Renew}
 use Rattle.rules.specs.Trail.{Capacity, Trail, fresh}
 use Rattle.rules.specs.Sound.{sourceFits, targetFits}
-use Rattle.rules.specs.Decide.{decisionOf, keeps, makes}
+use Rattle.rules.specs.Decide.{decisionOf}
 use Rattle.rules.specs.Record.{declared, happened, refusalOf, changeOf}
 use Rattle.rules.specs.PlainList.{changed, worked, itemsOf}
 use Rattle.rules.specs.History.{Item, kept, itemOf, keptEvents}
 use Rattle.rules.specs.Calls.{EnoughRows}
-use Rattle.soundness.specs.Taken.{EventTaken}
+use Rattle.soundness.specs.Taken.{RoomLeft, EventTaken}
 use Rattle.soundness.proofs.Taken.{event-taken}
 use Rattle.soundness.proofs.Put.{put-other}
 use Rattle.causality.specs.Working.{Grown}
@@ -28,7 +27,7 @@ use Rattle.agreement.specs.Taken.{Within, Taken, begun, next}
 use Rattle.agreement.proofs.Plain.{taken-fine}
 use Rattle.agreement.proofs.KeptOnly.{allKept, keptEvents-allKept}
 use Rattle.agreement.proofs.Decided.{decision-again}
-use Rattle.agreement.proofs.Passing.{event-passes, KeptStep, happened-step}
+use Rattle.agreement.proofs.Passing.{event-passes, KeptStep, made, happened-step}
 use Rattle.agreement.proofs.Relogged.{relogged, TakenBy, takenBy-taken, declares}
 
 -- T is on the way to F: what is to come adds no fewer versions than entities
@@ -72,12 +71,12 @@ pub record Regrown (cap : Capacity) (F T : Trail) (ks : List Event) : Type 0 whe
 
 module _ (F : Trail) (cap : Capacity) (w : Within cap) (room : EnoughRows cap (F .counts)) where
   -- The events
-  module _ {hs : List Item} (T : Trail) (e : Event) (d : Decision) (cap₀ : Capacity) (g : Grown T hs) (q : decisionOf T e ≡ d) (k : keeps d ≡ true)
+  module _ {hs : List Item} (T : Trail) (e : Event) (d : Decision) (cap₀ : Capacity) (g : Grown T hs) (q : decisionOf T e ≡ d) (k : itemOf d e ≡ kept e)
       (p : EventTaken cap₀ T e d) (b : Before (changed T (happened T e d)) F) (r : Regrown cap F T (keptEvents hs)) where
     abbrev R : List Record
     R = relogged F (keptEvents hs)
 
-    step : KeptStep T (changed T (happened T e d)) e (cond (makes d) 1 0)
+    step : KeptStep T (changed T (happened T e d)) e (made d)
     step = happened-step T e d k
 
     before : Before T F
@@ -99,8 +98,11 @@ module _ (F : Trail) (cap : Capacity) (w : Within cap) (room : EnoughRows cap (F
     sort-again : (x : ℕ) → x < T .counts .entities → T .entity x .sort ≡ worked R .entity x .sort
     sort-again x l = before .sorts x l ∙ sym (r .sorts x (omega (arith, before .entities)))
 
-    more : makes d ≡ true → T .counts .versions + 1 + F .counts .entities ≤ F .counts .versions + T .counts .entities
-    more m = let v : _≡_ {A = ℕ} (cond (makes d) 1 0) 1 = ap (λ (c : Bool). cond {A = ℕ} c 1 0) m in omega (arith, b .versions, step .versions, step .entities)
+    room-again : (x : Decision) → made x ≡ made d → RoomLeft cap (worked R .counts) x
+    room-again (Repeat j) h = tt
+    room-again Widen h = omega (arith, r .edges, step .edges, b .edges, room .edges)
+    room-again Renew h =
+        (omega (arith, r .edges, step .edges, b .edges, room .edges), omega (arith, h, r .versions, b .versions, step .versions, step .entities, room .versions))
 
     taken-again : EventTaken cap (worked R) e d
     taken-again = record {
@@ -111,27 +113,21 @@ module _ (F : Trail) (cap : Capacity) (w : Within cap) (room : EnoughRows cap (F
       target-fits = ap (targetFits (kindNo (e .kind))) (sym (sort-again _ (p .target-in))) ∙ p .target-fits;
       later = omega (arith, p .later, r .last);
       accepted-left = omega (arith, p .accepted-left, r .accepted);
-      edges-left = λ _. omega (arith, r .edges, step .edges, b .edges, room .edges);
-      versions-left = λ m. omega (arith, r .versions, more m, room .versions);
+      room-left = room-again d refl;
     }
 
-    step-again : KeptStep (worked R) (worked (records.Event e ∷ R)) e (cond (makes d) 1 0)
+    step-again : KeptStep (worked R) (worked (records.Event e ∷ R)) e (made d)
     unfolding changeOf
-    step-again = subst (λ (x : Decision). KeptStep (worked R) (changed (worked R) (happened (worked R) e x)) e (cond (makes d) 1 0)) (sym decided) (happened-step (worked R) e d k)
+    step-again = subst (λ (x : Decision). KeptStep (worked R) (changed (worked R) (happened (worked R) e x)) e (made d)) (sym decided) (happened-step (worked R) e d k)
 
     passes-again : refusalOf cap (worked R) (records.Event e) ≡ Passed
     unfolding refusalOf
     passes-again = event-passes cap (worked R) e _ (subst (EventTaken cap (worked R) e) (sym decided) taken-again)
 
-    item-kept : (x : Decision) → keeps x ≡ true → itemOf x e ≡ kept e
-    item-kept (Repeat j) h = absurd (let z : _≡_ {A = ℕ} 0 1 = cc in omega arith)
-    item-kept Widen h = refl
-    item-kept Renew h = refl
-
     regrown-kept : Regrown cap F (changed T (happened T e d)) (e ∷ keptEvents hs)
     regrown-kept = record {
       by = ((tt, passes-again), r .by);
-      items = λ j. (ap (λ (x : Decision). itemOf x e) decided ∙ item-kept d k) j ∷ r .items j;
+      items = λ j. (ap (λ (x : Decision). itemOf x e) decided ∙ k) j ∷ r .items j;
       entities = step-again .entities ∙ r .entities;
       sorts = λ x l. step-again .sorts x ∙ r .sorts x l;
       versions = omega (arith, step-again .versions, step .versions, step .entities, r .versions);

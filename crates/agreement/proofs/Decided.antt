@@ -13,8 +13,8 @@ use Rattle.record.specs.declared.Event.{Event}
 use Rattle.rules.specs.declared.Found.{Found}
 use Rattle.rules.specs.declared.Found.the-variants.{At, Nothing}
 use Rattle.rules.specs.Trail.{Trail, latestOf, ownerOf}
-use Rattle.rules.specs.Decide.{edgeNo, goesTo, newestTo, leaves, folds, repeatOf, hasOutgoing, decide, decisionOf, keeps}
-use Rattle.rules.specs.History.{Item, keptEvents}
+use Rattle.rules.specs.Decide.{edgeNo, goesTo, newestTo, leaves, folds, repeatOf, hasOutgoing, decide, decisionOf}
+use Rattle.rules.specs.History.{Item, kept, itemOf, keptEvents}
 use Rattle.causality.specs.Working.{ne, Grown}
 use Rattle.agreement.proofs.Growing.{Goes, newestTo-found, leaves-none}
 use Rattle.agreement.proofs.Recent.{EdgeTo, edge-again}
@@ -98,12 +98,12 @@ module _ {T U : Trail} {hs js : List Item} (g : Grown T hs) (i : Grown U js) (q 
         go true h = nothing-again g i q _ _ source-in source-again h
         go false h = refl
 
-    kept-nothing : (x : Found) (b : Bool) → keeps (decide x b) ≡ true → x ≡ Nothing
+    kept-nothing : (x : Found) (b : Bool) → itemOf (decide x b) e ≡ kept e → x ≡ Nothing
     kept-nothing (At k) b h = absurd (let z : _≡_ {A = ℕ} 0 1 = cc in omega arith)
     kept-nothing Nothing b h = refl
 
     -- an event that the one keeps, the other keeps alike
-    pub decision-again : keeps (decisionOf T e) ≡ true → decisionOf U e ≡ decisionOf T e
+    pub decision-again : itemOf (decisionOf T e) e ≡ kept e → decisionOf U e ≡ decisionOf T e
     unfolding decisionOf
     decision-again h =
         let n = kept-nothing (repeatOf T e) (hasOutgoing T (e .target .0)) h in
