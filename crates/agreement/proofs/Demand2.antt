@@ -15,9 +15,9 @@ use Rattle.record.specs.declared.Event.{Event}
 use Rattle.record.specs.Header.{headerChecks}
 use Rattle.rules.specs.declared.Decision.{Decision}
 use Rattle.rules.specs.declared.Decision.the-variants.{Repeat, Widen, Renew}
-use Rattle.rules.specs.Trail.{Tables, Capacity, capacityOf, Trail}
+use Rattle.rules.specs.Trail.{Tables, Capacity, capacityOf, Trail, trailOf}
 use Rattle.rules.specs.Decide.{decisionOf}
-use Rattle.rules.specs.Record.{happened, changeOf, stepOf, refusalOf}
+use Rattle.rules.specs.Record.{happened, changeOf, written, refusalOf}
 use Rattle.rules.specs.Batch.{Batched, batched, ifRefused, contentsOf, takeIn, batchChecks, batchOf}
 use Rattle.rules.specs.History.{Item, itemOf, accepted}
 use Rattle.rules.specs.PlainList.{changed, worked, itemsOf, added, addedBy, refusedAt, refusedBy}
@@ -96,7 +96,7 @@ module _ (cap : Capacity) (w : Within cap) where
       (go (refusalOf cap (worked rs) r) refl (λ h. takeIn-taking _ _ (r ∷ rs) (ready-next cap w c t rs y r (a .0) h) (n + 1) more ending (a .1)))
     where
       rest : Batched
-      rest = takeIn (stepOf c t r .counts) (stepOf c t r .tables) (n + 1) more ending
+      rest = takeIn (changeOf (trailOf c t) r .counts) (written t (changeOf (trailOf c t) r .writes)) (n + 1) more ending
 
       go : (x : Checked) → refusalOf cap (worked rs) r ≡ x → (refusalOf cap (worked rs) r ≡ Passed → Taking (n + 1) more (r ∷ rs) (added cap (r ∷ rs) more) (refusedAt cap (r ∷ rs) more ending) rest)
           → Taking n (r ∷ more) rs (ifRefused x rs (added cap (r ∷ rs) more)) (ifRefused x x (refusedAt cap (r ∷ rs) more ending)) (ifRefused x (batched x n c t) rest)

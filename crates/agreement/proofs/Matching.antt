@@ -13,14 +13,15 @@ use Rattle.record.specs.declared.Record.{Record}
 use Rattle.record.specs.Header.{headerChecks}
 use Rattle.rules.specs.Trail.{Tables, Capacity, capacityOf, trailOf}
 use Rattle.rules.specs.Sound.{isSound}
-use Rattle.rules.specs.Record.{refusalOf, stepOf}
+use Rattle.rules.specs.Record.{refusalOf, changeOf, written}
 use Rattle.rules.specs.PlainList.{worked, itemsOf, added, addedBy}
 use Rattle.rules.specs.Batch.{Batched, batched, ifRefused, contentsOf, takeIn, batchChecks, batchOf}
 use Rattle.rules.specs.Calls.{Call, batch, backward, forward, Held, heldAfter, EnoughRows, Lent, AllLent, plainAfter}
 use Rattle.soundness.specs.Facts.{CountFacts, RowFacts}
 use Rattle.soundness.specs.Taken.{SortFits, Each}
 use Rattle.soundness.proofs.Passes.{facts-sound}
-use Rattle.soundness.proofs.TableStep.{step-checked, step-capacity, step-trail, step-sound}
+use Rattle.soundness.proofs.Written.{capacityOf-written}
+use Rattle.soundness.proofs.TableStep.{step-trail, step-sound}
 use Rattle.closure.proofs.SameFacts.{rowFacts-same}
 use Rattle.agreement.specs.Taken.{greatest, Within, Taken, begun, next}
 use Rattle.agreement.proofs.Judged.{refusal-same}
@@ -87,21 +88,22 @@ lent-ready h rs m t l = record { taken = m .taken; alike = lent-alike h rs m t l
 module _ (cap : Capacity) (w : Within cap) where
   module _ (c : Counts) (t : Tables) (rs : List Record) (y : Ready cap c t rs) (r : Record) where
     -- the record is refused alike over the tables and over the plain list
-    pub checked-same : stepOf c t r .checked ≡ refusalOf cap (worked rs) r
+    pub checked-same : refusalOf (capacityOf t) (trailOf c t) r ≡ refusalOf cap (worked rs) r
     checked-same =
-        step-checked c t r ∙ ap (λ (k : Capacity). refusalOf k (trailOf c t) r) (y .capacity)
+        ap (λ (k : Capacity). refusalOf k (trailOf c t) r) (y .capacity)
         ∙ sym (refusal-same (y .alike .counts) (y .alike .rows) (taken-fine (y .taken) .rows) cap r)
 
-    pub ready-next : SortFits r → refusalOf cap (worked rs) r ≡ Passed → Ready cap (stepOf c t r .counts) (stepOf c t r .tables) (r ∷ rs)
+    pub ready-next : SortFits r → refusalOf cap (worked rs) r ≡ Passed
+        → Ready cap (changeOf (trailOf c t) r .counts) (written t (changeOf (trailOf c t) r .writes)) (r ∷ rs)
     ready-next s h =
-        let p : stepOf c t r .checked ≡ Passed = checked-same ∙ h in
+        let p = checked-same ∙ h in
         record {
           taken = next (y .taken) cap w r s h;
           alike =
               subst (Alike (worked (r ∷ rs))) (sym (step-trail c t r (y .sound) p))
               (changed-alike (worked rs) (taken-fine (y .taken) .rows) cap (trailOf c t) (y .alike) r h);
-          sound = step-sound c t r (y .sound) s;
-          capacity = step-capacity c t r ∙ y .capacity;
+          sound = step-sound c t r (y .sound) p s;
+          capacity = capacityOf-written t (changeOf (trailOf c t) r .writes) ∙ y .capacity;
         }
 
   takeIn-ready : (c : Counts) (t : Tables) (rs : List Record) → Ready cap c t rs → (n : ℕ) (more : List Record) (ending : Checked) → Each SortFits more
@@ -113,7 +115,7 @@ module _ (cap : Capacity) (w : Within cap) where
       (go (refusalOf cap (worked rs) r) refl (λ h. takeIn-ready _ _ (r ∷ rs) (ready-next c t rs y r (a .0) h) (n + 1) more ending (a .1)))
     where
       rest : Batched
-      rest = takeIn (stepOf c t r .counts) (stepOf c t r .tables) (n + 1) more ending
+      rest = takeIn (changeOf (trailOf c t) r .counts) (written t (changeOf (trailOf c t) r .writes)) (n + 1) more ending
 
       stop : Checked → Batched
       stop x = batched x n c t

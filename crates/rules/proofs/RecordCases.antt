@@ -31,5 +31,5 @@ recordCases = record {
   late-counts = refl;
   late-entities = refl;
   late-version = refl;
-  refused-step = refl;
+  refused-record = refl;
 }

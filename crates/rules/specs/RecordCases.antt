@@ -5,7 +5,7 @@ use mathlib.Core.Path.{_≡_}
 use mathlib.Core.List.{List, [], _∷_, _++_, map}
 use lib.ListN.{take, replicate}
 use Rattle.refusals.specs.declared.Refusal.the-variants.{NotLater}
-use Rattle.refusals.specs.declared.Checked.the-variants.{Refused}
+use Rattle.refusals.specs.declared.Checked.the-variants.{Passed, Refused}
 use Rattle.rows.specs.declared.Counts.{Counts}
 use Rattle.rows.specs.Rows.{entityRow, versionRow, entityNo, entityAt, versionAt}
 use Rattle.record.specs.declared.Kind.the-variants.{Read}
@@ -14,8 +14,7 @@ use Rattle.record.specs.declared.Record.the-variants as records
 use Rattle.rules.specs.declared.Found.the-variants.{At}
 use Rattle.rules.specs.Trail.{Trail, tables, trailOf, counts, freshCounts, none}
 use Rattle.rules.specs.Decide.{edgeNo, repeatOf}
-use Rattle.rules.specs.Record.{stepOf}
-use Rattle.rules.specs.Batch.{Batched, batchOf}
+use Rattle.rules.specs.Batch.{Batched, batched, takeIn, batchOf}
 use Rattle.rules.specs.Worked.{header, declarations, file, room, answer}
 use Rattle.rules.specs.Order.{declare, event, full}
 use Rattle.rules.specs.SoundCases.{versionsUsed}
@@ -110,4 +109,5 @@ pub record RecordCases : Type 0 where
   pub late-entities : map (entityAt (grownThenDeclared .tables .entities)) (0 ∷ 1 ∷ 2 ∷ 3 ∷ 4 ∷ []) ≡ entityRow 0 0 ∷ entityRow 1 4 ∷ entityRow 0 5 ∷ entityRow 0 3 ∷ entityRow 1 6 ∷ []
   pub late-version : versionAt (grownThenDeclared .tables .versions) 6 ≡ versionRow 4 0 0 none
   -- a refused record leaves nothing of itself: a read that is not later, where there is room for it
-  pub refused-step : stepOf (versionsUsed 5) (longer 2 4 4) (records.Event (read 3 1 9)) ≡ record { checked = Refused NotLater; counts = versionsUsed 5; tables = longer 2 4 4 }
+  pub refused-record : takeIn (versionsUsed 5) (longer 2 4 4) 0 (records.Event (read 3 1 9) ∷ []) Passed
+      ≡ batched (Refused NotLater) 0 (versionsUsed 5) (longer 2 4 4)

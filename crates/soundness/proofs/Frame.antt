@@ -12,7 +12,7 @@ use Rattle.rows.specs.declared.Counts.{Counts}
 use Rattle.record.specs.declared.Record.{Record}
 use Rattle.rules.specs.Trail.{Tables, capacityOf, Trail, trailOf}
 use Rattle.rules.specs.Sound.{isSound}
-use Rattle.rules.specs.Record.{stepOf}
+use Rattle.rules.specs.Record.{refusalOf}
 use Rattle.rules.specs.Batch.{batched, takeIn, contentsOf, batchChecks, batchOf}
 use Rattle.soundness.specs.Taken.{SortFits, Each}
 use Rattle.soundness.specs.Frame.{CountsGrow, LatestOrAdded, RowsStay, Framed, Frame}
@@ -92,8 +92,9 @@ module _ (c : Counts) (t : Tables) where
   unfolding takeIn
   takeIn-framed [] c1 t1 n ending f s p = p ending
   takeIn-framed (r ∷ rs) c1 t1 n ending f s p =
-      ifRefused-passed (Framed c t) (stepOf c1 t1 r .checked) _ _ (p (stepOf c1 t1 r .checked))
-      (λ q. takeIn-framed rs _ _ (n + 1) ending (f .1) (step-sound c1 t1 r s (f .0)) (λ x. framed-trans x (p x) (step-framed c1 t1 s r q x)))
+      let x = refusalOf (capacityOf t1) (trailOf c1 t1) r in
+      ifRefused-passed (Framed c t) x _ _ (p x)
+      (λ q. takeIn-framed rs _ _ (n + 1) ending (f .1) (step-sound c1 t1 r s q (f .0)) (λ y. framed-trans y (p y) (step-framed c1 t1 s r q y)))
 
 pub frame : Frame
 unfolding batchOf batchChecks

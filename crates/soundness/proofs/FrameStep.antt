@@ -1,10 +1,9 @@
 -- What one record that is taken in over sound tables leaves as it was lent.
-use Prim.Native.Nat.{ℕ}
 use native.Mathlib.Omega.{arith}
-use mathlib.Core.Path.{_≡_, refl, sym, _∙_, subst}
+use mathlib.Core.Path.{_≡_, sym, subst}
 use mathlib.Core.Bool.{true}
 use Rattle.refusals.specs.declared.Checked.{Checked}
-use Rattle.refusals.specs.declared.Checked.the-variants.{Passed, Refused}
+use Rattle.refusals.specs.declared.Checked.the-variants.{Passed}
 use Rattle.rows.specs.declared.Counts.{Counts}
 use Rattle.record.specs.declared.Event.{Event}
 use Rattle.record.specs.declared.Record.{Record}
@@ -14,7 +13,7 @@ use Rattle.rules.specs.declared.Decision.the-variants.{Repeat, Widen, Renew}
 use Rattle.rules.specs.Trail.{Tables, Capacity, capacityOf, Trail, trailOf}
 use Rattle.rules.specs.Sound.{isSound}
 use Rattle.rules.specs.Decide.{decisionOf}
-use Rattle.rules.specs.Record.{refusalOf, happened, changeOf, Stepped, stepped, stepOf}
+use Rattle.rules.specs.Record.{refusalOf, happened, changeOf, written}
 use Rattle.rules.specs.Batch.{batched}
 use Rattle.soundness.specs.Facts.{RowFacts}
 use Rattle.soundness.specs.Taken.{EventTaken}
@@ -22,7 +21,7 @@ use Rattle.soundness.specs.Frame.{CountsGrow, RowsStay, Framed}
 use Rattle.soundness.proofs.Facts.{sound-rows}
 use Rattle.soundness.proofs.Taken.{event-taken}
 use Rattle.soundness.proofs.Written.{Within}
-use Rattle.soundness.proofs.TableStep.{step-checked, step-trail}
+use Rattle.soundness.proofs.TableStep.{step-trail}
 use Rattle.soundness.proofs.Past.{AllPastStay, past-written}
 use Rattle.soundness.proofs.RowsStay.{step-stay}
 
@@ -63,27 +62,16 @@ module _ (c : Counts) (t : Tables) (s : isSound (capacityOf t) (trailOf c t) ≡
   facts : RowFacts T
   facts = sound-rows cap T s
 
-  abbrev Left : Stepped → Type 0
-  Left o = CountsGrow c (o .counts) 1 × AllPastStay (inUse (o .counts)) t (o .tables)
+  module _ (h : refusalOf cap T r ≡ Passed) where
+    past : AllPastStay (inUse (changeOf T r .counts)) t (written t (changeOf T r .writes))
+    past = past-written _ t (changeOf T r .writes) (writes-in-use cap T facts r h)
 
-  stepped-left : (x : Checked) → refusalOf cap T r ≡ x → x ≡ Passed → Left (stepped x c t (changeOf T r))
-  stepped-left Passed q h = (counts-grow cap T facts r q, past-written _ t (changeOf T r .writes) (writes-in-use cap T facts r q))
-  stepped-left (Refused x) q h = absurd (let z : _≡_ {A = ℕ} 0 1 = cc in omega arith)
-
-  module _ (h : stepOf c t r .checked ≡ Passed) where
-    passed : refusalOf cap T r ≡ Passed
-    passed = sym (step-checked c t r) ∙ h
-
-    step-left : Left (stepOf c t r)
-    unfolding stepOf
-    step-left = stepped-left (refusalOf cap T r) refl passed
-
-    pub step-framed : (x : Checked) → Framed c t (batched x 1 (stepOf c t r .counts) (stepOf c t r .tables))
+    pub step-framed : (x : Checked) → Framed c t (batched x 1 (changeOf T r .counts) (written t (changeOf T r .writes)))
     step-framed x = record {
-      counts = step-left .0;
-      entities = step-left .1 .entities;
-      versions = step-left .1 .versions;
-      edges = step-left .1 .edges;
-      rows = subst (RowsStay T) (sym (step-trail c t r s h)) (step-stay T cap r passed facts);
+      counts = counts-grow cap T facts r h;
+      entities = past .entities;
+      versions = past .versions;
+      edges = past .edges;
+      rows = subst (RowsStay T) (sym (step-trail c t r s h)) (step-stay T cap r h facts);
       none-taken = λ e. absurd (omega arith);
     }
