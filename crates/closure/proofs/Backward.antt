@@ -4,15 +4,15 @@ use native.Mathlib.Omega.{arith}
 use native.Mathlib.Decide.{ℕ-discrete}
 use mathlib.Core.Path.{_≡_, refl, sym, _∙_, ap, subst}
 use mathlib.Core.Logic.{_⊎_, inl, inr, _↔_}
-use mathlib.Core.List.{List, [], _∷_, List·Memᴰ, List·Memᴰ·head, List·Memᴰ·append-cases, List·Memᴰ·eq-of-singleton, Memᴰ·append-left, Memᴰ·append-right}
+use mathlib.Core.List.{[], _∷_, List·Memᴰ, List·Memᴰ·head, List·Memᴰ·append-cases, List·Memᴰ·eq-of-singleton, Memᴰ·append-left, Memᴰ·append-right}
 use lib.ListN.{length, getD}
 use Rattle.rules.specs.Trail.{Trail, none}
 use Rattle.rules.specs.Start.{startOf}
 use Rattle.rules.specs.Marks.{Arc, arc, closed}
 use Rattle.rules.specs.Backward.{BackwardMarks, edgesBack, stepsBack, backwardArcs, backwardWork}
 use Rattle.soundness.specs.Facts.{RowFacts}
-use Rattle.closure.specs.Arcs.{ReachedBy, Marked, Bits, EndBelow, AllBelow}
-use Rattle.closure.proofs.Closed.{length-closed, closed-iff, closed-unique}
+use Rattle.closure.specs.Arcs.{ReachedBy, Marked, EndBelow, AllBelow}
+use Rattle.closure.proofs.Closed.{length-closed, closed-iff}
 use Rattle.closure.proofs.Start.{previous-before, start-in}
 use Rattle.closure.proofs.TraceArcs.{edgesBack-iff, stepsBack-iff}
 
@@ -86,18 +86,6 @@ module _ (T : Trail) (s t : ℕ) where
     marks-iff : (w : ℕ) → Marked (closed (T .counts .versions) (backwardArcs T s t) (s ∷ [])) w ↔ BackwardMarks T s t w
     marks-iff w = let o = closed-iff (T .counts .versions) (backwardArcs T s t) (s ∷ []) (backwardArcs-ends f) seeds w in (λ q. reached-marks (o .0 q), λ d. o .1 (marks-reached d))
 
-    marks-unique : (m : List ℕ) → length m ≡ T .counts .versions → Bits m → Marked m s → ((w : ℕ) → Marked m w → BackwardMarks T s t w)
-        → ((k : ℕ) → k < T .counts .edges → (T .edge k .to .0 ≡ s → T .edge k .time ≤ t) → Marked m (T .edge k .to .0) → Marked m (T .edge k .from .0))
-        → ((k : ℕ) → k < T .counts .versions → (T .version k .previous .0 ≡ none → ⊥) → Marked m k → Marked m (T .version k .previous .0))
-        → m ≡ closed (T .counts .versions) (backwardArcs T s t) (s ∷ [])
-    marks-unique m l b i r edges steps =
-        closed-unique (T .counts .versions) (backwardArcs T s t) (s ∷ []) (backwardArcs-ends f) seeds m l b (λ c k. rw (List·Memᴰ·eq-of-singleton k) i) (λ c o. marks-reached (r c o))
-        (λ x k. go x (backwardArcs-iff x .0 k))
-      where
-        go : (x : Arc) → EdgeArc x ⊎ StepArc x → Marked m (x .from) → Marked m (x .to)
-        go x (inl (k, l, c, e)) = rw e (edges k l c)
-        go x (inr (k, l, c, e)) = rw e (steps k l c)
-
 pub length-backwardWork : (T : Trail) (x t : ℕ) → length (backwardWork T x t) ≡ T .counts .versions
 unfolding backwardWork
 length-backwardWork T x t = length-closed (T .counts .versions) (backwardArcs T (startOf T x t) t) (startOf T x t ∷ [])
@@ -107,12 +95,3 @@ module _ (T : Trail) (f : RowFacts T) (x t : ℕ) (h : x < T .counts .entities) 
   pub backwardWork-iff : (w : ℕ) → getD (backwardWork T x t) w 0 ≡ 1 ↔ BackwardMarks T (startOf T x t) t w
   unfolding backwardWork
   backwardWork-iff w = marks-iff T (startOf T x t) t f (start-in T f x t h) w
-
-  -- no other list of marks has the start version, only versions that the document marks, and all that these lead to
-  pub backwardWork-unique : (m : List ℕ) → length m ≡ T .counts .versions → Bits m → Marked m (startOf T x t)
-      → ((w : ℕ) → Marked m w → BackwardMarks T (startOf T x t) t w)
-      → ((k : ℕ) → k < T .counts .edges → (T .edge k .to .0 ≡ startOf T x t → T .edge k .time ≤ t) → Marked m (T .edge k .to .0) → Marked m (T .edge k .from .0))
-      → ((k : ℕ) → k < T .counts .versions → (T .version k .previous .0 ≡ none → ⊥) → Marked m k → Marked m (T .version k .previous .0))
-      → m ≡ backwardWork T x t
-  unfolding backwardWork
-  backwardWork-unique m l b i r edges steps = marks-unique T (startOf T x t) t f (start-in T f x t h) m l b i r edges steps

@@ -2,15 +2,15 @@
 use Prim.Native.Nat.{ℕ, _<_}
 use mathlib.Core.Path.{_≡_, refl, sym, _∙_, ap, subst}
 use mathlib.Core.Logic.{_⊎_, inl, inr, _↔_}
-use mathlib.Core.List.{List, [], _∷_, List·Memᴰ, List·Memᴰ·head, List·Memᴰ·append-cases, List·Memᴰ·eq-of-singleton, Memᴰ·append-left, Memᴰ·append-right}
+use mathlib.Core.List.{[], _∷_, List·Memᴰ, List·Memᴰ·head, List·Memᴰ·append-cases, List·Memᴰ·eq-of-singleton, Memᴰ·append-left, Memᴰ·append-right}
 use lib.ListN.{length, getD}
 use Rattle.rules.specs.Trail.{Trail, none}
 use Rattle.rules.specs.Start.{startOf}
 use Rattle.rules.specs.Marks.{Arc, arc, closed}
 use Rattle.rules.specs.Forward.{ForwardMarks, edgesOn, stepsOn, forwardArcs, forwardWork}
 use Rattle.soundness.specs.Facts.{RowFacts}
-use Rattle.closure.specs.Arcs.{ReachedBy, Marked, Bits, EndBelow, AllBelow}
-use Rattle.closure.proofs.Closed.{length-closed, closed-iff, closed-unique}
+use Rattle.closure.specs.Arcs.{ReachedBy, Marked, EndBelow, AllBelow}
+use Rattle.closure.proofs.Closed.{length-closed, closed-iff}
 use Rattle.closure.proofs.Start.{start-in}
 use Rattle.closure.proofs.TraceArcs.{edgesOn-iff, stepsOn-iff}
 
@@ -78,18 +78,6 @@ module _ (T : Trail) where
       marks-iff : (w : ℕ) → Marked (closed (T .counts .versions) (forwardArcs T) (s ∷ [])) w ↔ ForwardMarks T s w
       marks-iff w = let o = closed-iff (T .counts .versions) (forwardArcs T) (s ∷ []) (forwardArcs-ends f) seeds w in (λ q. reached-marks (o .0 q), λ d. o .1 (marks-reached d))
 
-      marks-unique : (m : List ℕ) → length m ≡ T .counts .versions → Bits m → Marked m s → ((w : ℕ) → Marked m w → ForwardMarks T s w)
-          → ((k : ℕ) → k < T .counts .edges → Marked m (T .edge k .from .0) → Marked m (T .edge k .to .0))
-          → ((k : ℕ) → k < T .counts .versions → (T .version k .previous .0 ≡ none → ⊥) → Marked m (T .version k .previous .0) → Marked m k)
-          → m ≡ closed (T .counts .versions) (forwardArcs T) (s ∷ [])
-      marks-unique m l b i r edges steps =
-          closed-unique (T .counts .versions) (forwardArcs T) (s ∷ []) (forwardArcs-ends f) seeds m l b (λ c k. rw (List·Memᴰ·eq-of-singleton k) i) (λ c o. marks-reached (r c o))
-          (λ x k. go x (forwardArcs-iff x .0 k))
-        where
-          go : (x : Arc) → EdgeArc x ⊎ StepArc x → Marked m (x .from) → Marked m (x .to)
-          go x (inl (k, l, e)) = rw e (edges k l)
-          go x (inr (k, l, c, e)) = rw e (steps k l c)
-
 pub length-forwardWork : (T : Trail) (x t : ℕ) → length (forwardWork T x t) ≡ T .counts .versions
 unfolding forwardWork
 length-forwardWork T x t = length-closed (T .counts .versions) (forwardArcs T) (startOf T x t ∷ [])
@@ -99,12 +87,3 @@ module _ (T : Trail) (f : RowFacts T) (x t : ℕ) (h : x < T .counts .entities) 
   pub forwardWork-iff : (w : ℕ) → getD (forwardWork T x t) w 0 ≡ 1 ↔ ForwardMarks T (startOf T x t) w
   unfolding forwardWork
   forwardWork-iff w = marks-iff T (startOf T x t) f (start-in T f x t h) w
-
-  -- no other list of marks has the start version, only versions that the document marks, and all that these lead to
-  pub forwardWork-unique : (m : List ℕ) → length m ≡ T .counts .versions → Bits m → Marked m (startOf T x t)
-      → ((w : ℕ) → Marked m w → ForwardMarks T (startOf T x t) w)
-      → ((k : ℕ) → k < T .counts .edges → Marked m (T .edge k .from .0) → Marked m (T .edge k .to .0))
-      → ((k : ℕ) → k < T .counts .versions → (T .version k .previous .0 ≡ none → ⊥) → Marked m (T .version k .previous .0) → Marked m k)
-      → m ≡ forwardWork T x t
-  unfolding forwardWork
-  forwardWork-unique m l b i r edges steps = marks-unique T (startOf T x t) f (start-in T f x t h) m l b i r edges steps

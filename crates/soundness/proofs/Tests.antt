@@ -44,12 +44,6 @@ sort-low s h = go (leb s 1) refl
 
 -- a flag that a call returned
 
-pub true-by : (b r : Bool) → r ≡ b → r ≡ true → b ≡ true
-true-by b r p h = sym p ∙ h
-
-pub false-by : (b r : Bool) → r ≡ b → r ≡ false → b ≡ false
-false-by b r p h = sym p ∙ h
-
 pub true-by-not : (b r : Bool) → r ≡ b → not r ≡ false → b ≡ true
 true-by-not b r p h = sym p ∙ not-false r h
 
