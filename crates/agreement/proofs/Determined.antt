@@ -62,11 +62,11 @@ taken-length rs t file rs′ a g =
 
 pub determined : Determined
 determined = record {
-  backward = λ rs v time b b′ a a′. (marks-one a a′, count-same a a′);
-  forward = λ rs u time f f′ a a′. (
-    marks-one (a .marks) (a′ .marks),
-    count-same (a .marks) (a′ .marks),
-    a .intake ∙ sym (a′ .intake),
+  backward = λ rs v time work marks work′ marks′ b b′ a a′ z z′. (marks-one (a .marks-are z) (a′ .marks-are z′), count-same (a .marks-are z) (a′ .marks-are z′));
+  forward = λ rs u time work marks work′ marks′ f f′ a a′ z z′. (
+    marks-one (a .marks-are z) (a′ .marks-are z′),
+    count-same (a .marks-are z) (a′ .marks-are z′),
+    a .intake-is z ∙ sym (a′ .intake-is z′),
   );
   holds = λ rs c c′ t t′ h h′. (counts-one rs c c′ t t′ h h′, rows-one rs c c′ t t′ h h′);
   answer = λ rs t file rs′ a a′ g g′.

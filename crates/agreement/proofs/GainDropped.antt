@@ -8,6 +8,7 @@ use mathlib.Core.List.{List, [], _∷_, List·Memᴰ, List·Memᴰ·head, List·
 use lib.ListN.{getD}
 use Rattle.record.specs.declared.Kind.the-variants.{Read, Write}
 use Rattle.record.specs.declared.Event.{Event}
+use Rattle.rules.specs.declared.BackwardAnswer.{BackwardAnswer}
 use Rattle.rules.specs.Paths.{CausalPath, PathBy, Gains}
 use Rattle.rules.specs.History.{Item, kept, dropped, accepted, keptEvents}
 use Rattle.rules.specs.PlainList.{itemsOf}
@@ -29,7 +30,7 @@ worked-events = ap accepted (computed .items)
 no-path : CausalPath by-5 3 2 → ⊥
 unfolding upTo
 no-path p =
-    let m = backward-right (rows .p3-at-5) .marked 3 (omega (arith, four)) .1 (subst (λ (es : List Event). PathBy es 5 3 2) (sym worked-events) (causal-by 5 (accepted items-by-7) 3 2 .0 p)) in
+    let m = backward-right (rows .p3-at-5) .marks-are (ap (λ (a : BackwardAnswer). a .refusal) (rows .p3-at-5 .0)) .marked 3 (omega (arith, four)) .1 (subst (λ (es : List Event). PathBy es 5 3 2) (sym worked-events) (causal-by 5 (accepted items-by-7) 3 2 .0 p)) in
     omega (arith, m, ap (λ (l : List ℕ). getD l 3 0) (rows .p3-at-5 .1))
 
 gains-montage : Gains by-5 (event Write 1 2 6) 3

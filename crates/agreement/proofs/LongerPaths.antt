@@ -1,6 +1,6 @@
 -- With the event at 8, a causal path leads from the study by the stager's two versions to the montage, and from the montage none through
 -- later events.
-use Prim.Native.Nat.{_≤_}
+use Prim.Native.Nat.{ℕ, _≤_}
 use native.Mathlib.Omega.{arith}
 use mathlib.Core.Path.{_≡_, refl, sym, subst}
 use mathlib.Core.List.{List, [], _∷_, List·Memᴰ·head, List·Memᴰ·tail, List·Memᴰ·not-nil}
@@ -28,17 +28,17 @@ study-to-montage = record {
       (among-cons (List·Memᴰ·head refl) among-nil);
 }
 
-pub montage-back : (b : BackwardTrace) → BackwardAgrees longerPlain 3 8 b → getD (b .marks) 0 0 ≡ 1
+pub montage-back : {work marks : List ℕ} (b : BackwardTrace) → BackwardAgrees longerPlain 3 8 work marks b → b .answer .refusal ≡ 0 → getD (b .marks) 0 0 ≡ 1
 unfolding study-to-montage
-montage-back b a =
-    a .marked 0 (omega (arith, computed .entities)) .1
+montage-back b a z =
+    a .marks-are z .marked 0 (omega (arith, computed .entities)) .1
     (subst (λ (hs : List Item). PathBy (accepted hs) 8 0 3) (sym (computed .longer)) (study-to-montage, λ e m. all-mem (λ d. d .time ≤ 8) (study-to-montage .path) (omega arith, (omega arith, tt)) m))
 
 -- the study has no intake
-pub study-forward : (f : ForwardTrace) → ForwardAgrees longerPlain 0 4 f → getD (f .marks) 3 0 ≡ 1
+pub study-forward : {work marks : List ℕ} (f : ForwardTrace) → ForwardAgrees longerPlain 0 4 work marks f → f .answer .refusal ≡ 0 → getD (f .marks) 3 0 ≡ 1
 unfolding since into
-study-forward f a =
-    a .marks .marked 3 (omega (arith, computed .entities)) .1 (subst (λ (hs : List Item). Reached 0 4 hs 3) (sym (computed .longer)) study-to-montage)
+study-forward f a z =
+    a .marks-are z .marked 3 (omega (arith, computed .entities)) .1 (subst (λ (hs : List Item). Reached 0 4 hs 3) (sym (computed .longer)) study-to-montage)
 
 -- the event at 8 is the montage's intake, and nothing is accepted after it
 montage-alone : Reached 3 8 longer 1 → ⊥
@@ -49,6 +49,6 @@ montage-alone p = none (p .path) (p .links) (p .members)
     none [] k m = omega arith
     none (e ∷ es) k m = List·Memᴰ·not-nil (m e (List·Memᴰ·head refl))
 
-pub montage-forward : (f : ForwardTrace) → ForwardAgrees longerPlain 3 8 f → getD (f .marks) 1 0 ≡ 1 → ⊥
-montage-forward f a m =
-    montage-alone (subst (λ (hs : List Item). Reached 3 8 hs 1) (computed .longer) (a .marks .marked 1 (omega (arith, computed .entities)) .0 m))
+pub montage-forward : {work marks : List ℕ} (f : ForwardTrace) → ForwardAgrees longerPlain 3 8 work marks f → f .answer .refusal ≡ 0 → getD (f .marks) 1 0 ≡ 1 → ⊥
+montage-forward f a z m =
+    montage-alone (subst (λ (hs : List Item). Reached 3 8 hs 1) (computed .longer) (a .marks-are z .marked 1 (omega (arith, computed .entities)) .0 m))

@@ -13,7 +13,7 @@ use Rattle.closure.proofs.StartVersion.{onChain-in}
 use Rattle.closure.proofs.Traces.{passed-entity}
 use Rattle.closure.proofs.Checked.{number-passed, passed-rows}
 use Rattle.closure.proofs.ByRelations.{traces-by-relations}
-use Rattle.agreement.specs.Demand3.{BackwardClaim}
+use Rattle.agreement.specs.Demand3.{BackwardAgrees}
 use Rattle.agreement.specs.Refuted.{workedPlain}
 use Rattle.agreement.proofs.WorkedAnswers.{rows, not-refused, backward-is}
 
@@ -24,14 +24,14 @@ on-chain e o (BackwardMarks.intoOther k m n l p q) = absurd (omega arith)
 on-chain e o (BackwardMarks.previous m n q) = OnChain.previous (on-chain e o m) n q
 
 module _ (c : Counts) (t : Tables) (work marks : List ℕ) (e : c .edges ≡ 0) (l : 5 ≤ length work) (j : 4 ≤ length marks)
-    (g : BackwardClaim workedPlain 2 6 work marks (backwardOf c t 2 6 work marks)) where
+    (g : BackwardAgrees workedPlain 2 6 work marks (backwardOf c t 2 6 work marks)) where
   pub no-edge-traced : ⊥
   no-edge-traced =
       let r = traces-by-relations .backward c t 2 6 work marks _ .0 refl in
       let z : backwardOf c t 2 6 work marks .answer .refusal ≡ 0 = g .refusal ∙ not-refused 2 work marks (omega arith) l j in
       let p = number-passed c t 2 work marks (sym (r .refusal) ∙ z) in
       let b = r .traced z in
-      let y = backward-is (rows .p4) (backwardOf c t 2 6 work marks) (g .agrees z) .0 0 (omega arith) in
+      let y = backward-is (rows .p4) (backwardOf c t 2 6 work marks) g z .0 0 (omega arith) in
       let i = passed-entity c t 2 work marks p in
       let m = b .2 .entities .marked 0 .0 (omega arith, y) in
       let o = onChain-in (trailOf c t) (passed-rows c t 2 work marks p) i (on-chain e (b .1 .on-chain) (m .1)) .1 in

@@ -39,26 +39,26 @@ eleven k n a w g = n (sym w ∙ ap (λ (z : BatchAnswer). z .taken) (answer-is 8
 
 pub refuted : Refuted
 refuted = record {
-  backward-only-itself = λ work marks b z w a. let e = w 0 (omega arith) (backward-is (rows .p4) b (a .agrees z) .0 0 (omega arith)) in omega arith;
-  forward-only-itself = λ work marks f z w a. let e = w 1 (omega arith) (forward-is (rows .p5) f (a .agrees z) .0 1 (omega arith)) in omega arith;
+  backward-only-itself = λ work marks b z w a. let e = w 0 (omega arith) (backward-is (rows .p4) b a z .0 0 (omega arith)) in omega arith;
+  forward-only-itself = λ work marks f z w a. let e = w 1 (omega arith) (forward-is (rows .p5) f a z .0 1 (omega arith)) in omega arith;
   backward-same-marks = λ work marks b b′ z z′ s a a′.
-      omega (arith, s 0 (omega arith), backward-is (rows .p2) b (a .agrees z) .0 0 (omega arith), backward-is (rows .p4) b′ (a′ .agrees z′) .0 0 (omega arith));
+      omega (arith, s 0 (omega arith), backward-is (rows .p2) b a z .0 0 (omega arith), backward-is (rows .p4) b′ a′ z′ .0 0 (omega arith));
   forward-same-marks = λ work marks f f′ z z′ s a a′.
-      omega (arith, s 0 (omega arith), forward-is (rows .p5) f (a .agrees z) .0 0 (omega arith), forward-is (rows .p8) f′ (a′ .agrees z′) .0 0 (omega arith));
-  forward-report-missed = λ work marks f z w a. omega (arith, forward-is (rows .p5) f (a .agrees z) .0 2 (omega arith));
-  backward-montage-at-4 = λ work marks b z w a. omega (arith, backward-is (rows .p3-at-4) b (a .agrees z) .0 3 (omega arith));
-  backward-montage-at-5 = λ work marks b z w a. omega (arith, backward-is (rows .p3-at-5) b (a .agrees z) .0 3 (omega arith));
-  forward-from-t-alone = λ work marks f z w a. let e = w 1 (omega arith) (forward-is (rows .p8) f (a .agrees z) .0 1 (omega arith)) in omega arith;
-  forward-study-at-4 = λ work marks f z w a. omega (arith, forward-is (rows .p6) f (a .agrees z) .0 0 (omega arith));
-  backward-without-previous = λ work marks b z w a. omega (arith, montage-back b (a .agrees z));
-  forward-without-version-steps = λ work marks f z w a. omega (arith, study-forward f (a .agrees z));
-  forward-before-intake = λ work marks f z w a. montage-forward f (a .agrees z) w;
-  backward-other-byte = λ work marks b z w a. w .0 (backward-is (rows .p3-at-4) b (a .agrees z) .0 3 (omega arith));
-  forward-other-byte = λ work marks f z w a. w .0 (forward-is (rows .p6) f (a .agrees z) .0 0 (omega arith));
-  backward-other-count = λ work marks b z w a. w (backward-is (rows .p4) b (a .agrees z) .1);
-  forward-other-count = λ work marks f z w a. w (forward-is (rows .p5) f (a .agrees z) .1);
-  intake-zero = λ work marks f z w a. omega (arith, forward-is (rows .p6) f (a .agrees z) .2);
-  intake-free = λ work marks f z w a. w (forward-is (rows .p6) f (a .agrees z) .2);
+      omega (arith, s 0 (omega arith), forward-is (rows .p5) f a z .0 0 (omega arith), forward-is (rows .p8) f′ a′ z′ .0 0 (omega arith));
+  forward-report-missed = λ work marks f z w a. omega (arith, forward-is (rows .p5) f a z .0 2 (omega arith));
+  backward-montage-at-4 = λ work marks b z w a. omega (arith, backward-is (rows .p3-at-4) b a z .0 3 (omega arith));
+  backward-montage-at-5 = λ work marks b z w a. omega (arith, backward-is (rows .p3-at-5) b a z .0 3 (omega arith));
+  forward-from-t-alone = λ work marks f z w a. let e = w 1 (omega arith) (forward-is (rows .p8) f a z .0 1 (omega arith)) in omega arith;
+  forward-study-at-4 = λ work marks f z w a. omega (arith, forward-is (rows .p6) f a z .0 0 (omega arith));
+  backward-without-previous = λ work marks b z w a. omega (arith, montage-back b a z);
+  forward-without-version-steps = λ work marks f z w a. omega (arith, study-forward f a z);
+  forward-before-intake = λ work marks f z w a. montage-forward f a z w;
+  backward-other-byte = λ work marks b z w a. w .0 (backward-is (rows .p3-at-4) b a z .0 3 (omega arith));
+  forward-other-byte = λ work marks f z w a. w .0 (forward-is (rows .p6) f a z .0 0 (omega arith));
+  backward-other-count = λ work marks b z w a. w (backward-is (rows .p4) b a z .1);
+  forward-other-count = λ work marks f z w a. w (forward-is (rows .p5) f a z .1);
+  intake-zero = λ work marks f z w a. omega (arith, forward-is (rows .p6) f a z .2);
+  intake-free = λ work marks f z w a. w (forward-is (rows .p6) f a z .2);
   backward-refused = λ work marks b z a. not-16 workedPlain 2 work marks (sym (a .refusal) ∙ z);
   forward-refused = λ work marks f z a. not-16 workedPlain 3 work marks (sym (a .refusal) ∙ z);
   backward-always-refused = λ work marks b l m w a. w (a .refusal ∙ not-refused 2 work marks (omega arith) l m);

@@ -5,7 +5,7 @@ use native.Mathlib.Omega.{arith}
 use mathlib.Core.Path.{_≡_, sym, _∙_, ap}
 use mathlib.Core.Bool.{Bool, cond}
 use mathlib.Core.List.{List, []}
-use lib.ListN.{length, getD}
+use lib.ListN.{length, getD, replicate}
 use lib.Dec.{ltb}
 use borrow.Author.Tests.{le-ltb, lt-leb}
 use Rattle.refusals.specs.declared.Refusal.the-variants.{OutputShort}
@@ -113,21 +113,23 @@ marks-are : (marks : List ℕ) {marks′ left : List ℕ} → SameMarks (worked 
 marks-are marks s q x l = s x (omega (arith, four)) ∙ ap (λ (m : List ℕ). getD m x 0) q
 
 module _ {v time n : ℕ} {marks : List ℕ} (q : (backward v time .answer ≡ record { refusal = 0; count = n }) × (backward v time .marks ≡ marks)) where
-  pub backward-right : BackwardAgrees workedPlain v time (backward v time)
+  pub backward-right : BackwardAgrees workedPlain v time (replicate 6 9) (replicate 5 9) (backward v time)
   unfolding backward
-  backward-right = next-backward worked-left v time _ _ .agrees (ap (λ (a : BackwardAnswer). a .refusal) (q .0))
+  backward-right = next-backward worked-left v time _ _
 
-  pub backward-is : (b : BackwardTrace) → BackwardAgrees workedPlain v time b → SameMarks 4 (b .marks) marks × (b .answer .count ≡ n)
-  backward-is b a =
-      let s = determined .backward workedPlain v time b (backward v time) a backward-right in
+  pub backward-is : {work lent : List ℕ} (b : BackwardTrace) → BackwardAgrees workedPlain v time work lent b → b .answer .refusal ≡ 0
+      → SameMarks 4 (b .marks) marks × (b .answer .count ≡ n)
+  backward-is b a z =
+      let s = determined .backward workedPlain v time _ _ _ _ b (backward v time) a backward-right z (ap (λ (r : BackwardAnswer). r .refusal) (q .0)) in
       (marks-are (b .marks) (s .0) (q .1), s .1 ∙ ap (λ (r : BackwardAnswer). r .count) (q .0))
 
 module _ {u time n i : ℕ} {marks : List ℕ} (q : (forward u time .answer ≡ record { refusal = 0; count = n; intake = i }) × (forward u time .marks ≡ marks)) where
-  forward-right : ForwardAgrees workedPlain u time (forward u time)
+  forward-right : ForwardAgrees workedPlain u time (replicate 6 9) (replicate 5 9) (forward u time)
   unfolding forward
-  forward-right = next-forward worked-left u time _ _ .agrees (ap (λ (a : ForwardAnswer). a .refusal) (q .0))
+  forward-right = next-forward worked-left u time _ _
 
-  pub forward-is : (f : ForwardTrace) → ForwardAgrees workedPlain u time f → SameMarks 4 (f .marks) marks × (f .answer .count ≡ n) × (f .answer .intake ≡ i)
-  forward-is f a =
-      let s = determined .forward workedPlain u time f (forward u time) a forward-right in
+  pub forward-is : {work lent : List ℕ} (f : ForwardTrace) → ForwardAgrees workedPlain u time work lent f → f .answer .refusal ≡ 0
+      → SameMarks 4 (f .marks) marks × (f .answer .count ≡ n) × (f .answer .intake ≡ i)
+  forward-is f a z =
+      let s = determined .forward workedPlain u time _ _ _ _ f (forward u time) a forward-right z (ap (λ (r : ForwardAnswer). r .refusal) (q .0)) in
       (marks-are (f .marks) (s .0) (q .1), s .1 ∙ ap (λ (r : ForwardAnswer). r .count) (q .0), s .2 ∙ ap (λ (r : ForwardAnswer). r .intake) (q .0))

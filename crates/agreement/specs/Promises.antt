@@ -13,7 +13,7 @@ use Rattle.soundness.specs.Frame.{Framed}
 use Rattle.closure.specs.ByRelations.{IsBackwardTrace, IsForwardTrace}
 use Rattle.agreement.specs.Left.{LeftBy}
 use Rattle.agreement.specs.Demand2.{Holds, Answered}
-use Rattle.agreement.specs.Demand3.{BackwardClaim, ForwardClaim}
+use Rattle.agreement.specs.Demand3.{BackwardAgrees, ForwardAgrees}
 use Rattle.agreement.specs.RoundTrip.{LogAgrees}
 
 -- the list with this batch leaves what the batch left; that holds the records taken in
@@ -26,11 +26,11 @@ pub record BatchPromise (c : Counts) (t : Tables) (file : List ℕ) (b : Batched
 -- the trace is the one that document 01's relations say, and agrees with the full list
 pub record BackwardPromise (c : Counts) (t : Tables) (v time : ℕ) (work marks : List ℕ) (b : BackwardTrace) : Type 0 where
   pub traced : IsBackwardTrace c t v time work marks b
-  pub agrees : (cs : List Call) → LeftBy cs c t → BackwardClaim (plainAfter cs) v time work marks b
+  pub agrees : (cs : List Call) → LeftBy cs c t → BackwardAgrees (plainAfter cs) v time work marks b
 
 pub record ForwardPromise (c : Counts) (t : Tables) (u time : ℕ) (work marks : List ℕ) (f : ForwardTrace) : Type 0 where
   pub traced : IsForwardTrace c t u time work marks f
-  pub agrees : (cs : List Call) → LeftBy cs c t → ForwardClaim (plainAfter cs) u time work marks f
+  pub agrees : (cs : List Call) → LeftBy cs c t → ForwardAgrees (plainAfter cs) u time work marks f
 
 -- the log that was written is taken in again
 abbrev pub LogPromise : Counts → Tables → List ℕ → KeptLog → Type 0

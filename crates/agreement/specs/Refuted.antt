@@ -24,18 +24,20 @@ use Rattle.rules.specs.Calls.{Call, batch, plainAfter}
 use Rattle.rules.specs.Worked as worked-trail
 use Rattle.closure.specs.Same.{SameRows}
 use Rattle.agreement.specs.Demand2.{Holds, Answered}
-use Rattle.agreement.specs.Demand3.{BackwardAgrees, ForwardAgrees, BackwardClaim, ForwardClaim, GainsAreKept}
+use Rattle.agreement.specs.Demand3.{BackwardAgrees, ForwardAgrees, GainsAreKept}
 use Rattle.agreement.specs.RoundTrip.{TakenAgain, LogAgrees}
 
 -- the same bytes for n entities
 abbrev pub SameMarks : ℕ → List ℕ → List ℕ → Type 0
 SameMarks n marks marks′ = (x : ℕ) → x < n → getD marks x 0 ≡ getD marks′ x 0
 
--- For any plain list, two answers of which a claim holds are the same
+-- For any plain list, two answers of which a claim holds are the same, if they are not refused, whatever the buffers lent
 pub record Determined : Type 0 where
-  pub backward : (rs : List Record) (v time : ℕ) (b b′ : BackwardTrace) → BackwardAgrees rs v time b → BackwardAgrees rs v time b′
+  pub backward : (rs : List Record) (v time : ℕ) (work marks work′ marks′ : List ℕ) (b b′ : BackwardTrace) → BackwardAgrees rs v time work marks b
+      → BackwardAgrees rs v time work′ marks′ b′ → b .answer .refusal ≡ 0 → b′ .answer .refusal ≡ 0
       → SameMarks (worked rs .counts .entities) (b .marks) (b′ .marks) × (b .answer .count ≡ b′ .answer .count)
-  pub forward : (rs : List Record) (u time : ℕ) (f f′ : ForwardTrace) → ForwardAgrees rs u time f → ForwardAgrees rs u time f′
+  pub forward : (rs : List Record) (u time : ℕ) (work marks work′ marks′ : List ℕ) (f f′ : ForwardTrace) → ForwardAgrees rs u time work marks f
+      → ForwardAgrees rs u time work′ marks′ f′ → f .answer .refusal ≡ 0 → f′ .answer .refusal ≡ 0
       → SameMarks (worked rs .counts .entities) (f .marks) (f′ .marks) × (f .answer .count ≡ f′ .answer .count) × (f .answer .intake ≡ f′ .answer .intake)
   pub holds : (rs : List Record) (c c′ : Counts) (t t′ : Tables) → Holds rs c t → Holds rs c′ t′ → (c ≡ c′) × SameRows (trailOf c t) (trailOf c′ t′)
   pub answer : (rs : List Record) (t : Tables) (file : List ℕ) (rs′ : List Record) (a a′ : BatchAnswer) → Answered rs t file rs′ a
@@ -59,10 +61,10 @@ TakenAgainClaim b = TakenAgain (worked-trail.batch 8 .counts) (worked-trail.batc
 -- tables
 
 abbrev pub NoBackward : List Record → ℕ → ℕ → (BackwardTrace → Type 0) → Type 0
-NoBackward rs v time Wrong = (work marks : List ℕ) (b : BackwardTrace) → b .answer .refusal ≡ 0 → Wrong b → BackwardClaim rs v time work marks b → ⊥
+NoBackward rs v time Wrong = (work marks : List ℕ) (b : BackwardTrace) → b .answer .refusal ≡ 0 → Wrong b → BackwardAgrees rs v time work marks b → ⊥
 
 abbrev pub NoForward : List Record → ℕ → ℕ → (ForwardTrace → Type 0) → Type 0
-NoForward rs u time Wrong = (work marks : List ℕ) (f : ForwardTrace) → f .answer .refusal ≡ 0 → Wrong f → ForwardClaim rs u time work marks f → ⊥
+NoForward rs u time Wrong = (work marks : List ℕ) (f : ForwardTrace) → f .answer .refusal ≡ 0 → Wrong f → ForwardAgrees rs u time work marks f → ⊥
 
 abbrev pub NoAnswer : ℕ → (BatchAnswer → Type 0) → Type 0
 NoAnswer n Wrong = (a : BatchAnswer) → Wrong a → Answered [] (worked-trail.room n) (worked-trail.file 1) (plainAfter (workedCalls n)) a → ⊥
@@ -80,9 +82,9 @@ pub record Refuted : Type 0 where
   pub forward-only-itself : NoForward workedPlain 3 0 (λ f. OnlyMarked 3 (f .marks))
   -- "or always the same marks": P2 against P4, P5 against P8
   pub backward-same-marks : (work marks : List ℕ) (b b′ : BackwardTrace) → b .answer .refusal ≡ 0 → b′ .answer .refusal ≡ 0
-      → SameMarks 4 (b .marks) (b′ .marks) → BackwardClaim workedPlain 2 1 work marks b → BackwardClaim workedPlain 2 6 work marks b′ → ⊥
+      → SameMarks 4 (b .marks) (b′ .marks) → BackwardAgrees workedPlain 2 1 work marks b → BackwardAgrees workedPlain 2 6 work marks b′ → ⊥
   pub forward-same-marks : (work marks : List ℕ) (f f′ : ForwardTrace) → f .answer .refusal ≡ 0 → f′ .answer .refusal ≡ 0
-      → SameMarks 4 (f .marks) (f′ .marks) → ForwardClaim workedPlain 3 0 work marks f → ForwardClaim workedPlain 0 4 work marks f′ → ⊥
+      → SameMarks 4 (f .marks) (f′ .marks) → ForwardAgrees workedPlain 3 0 work marks f → ForwardAgrees workedPlain 0 4 work marks f′ → ⊥
   -- "Taking an edge from an older version of u for a repeat: time 6 is dropped and 2 vanishes from P5."
   pub forward-report-missed : NoForward workedPlain 3 0 (λ f. getD (f .marks) 2 0 ≡ 0)
   -- "Widening a version that already gave something: the montage appears in P3."
@@ -110,16 +112,16 @@ pub record Refuted : Type 0 where
   pub intake-free : NoForward workedPlain 1 4 (λ f. (f .answer .intake ≡ 1 → ⊥))
   -- "In such a list a trace is refused only with 5 or 14": not with 16, and not at all if the entity is declared and the buffers are
   -- long enough
-  pub backward-refused : (work marks : List ℕ) (b : BackwardTrace) → b .answer .refusal ≡ refusalNo Unsound → BackwardClaim workedPlain 2 6 work marks b → ⊥
-  pub forward-refused : (work marks : List ℕ) (f : ForwardTrace) → f .answer .refusal ≡ refusalNo Unsound → ForwardClaim workedPlain 3 0 work marks f → ⊥
+  pub backward-refused : (work marks : List ℕ) (b : BackwardTrace) → b .answer .refusal ≡ refusalNo Unsound → BackwardAgrees workedPlain 2 6 work marks b → ⊥
+  pub forward-refused : (work marks : List ℕ) (f : ForwardTrace) → f .answer .refusal ≡ refusalNo Unsound → ForwardAgrees workedPlain 3 0 work marks f → ⊥
   pub backward-always-refused : (work marks : List ℕ) (b : BackwardTrace) → 5 ≤ length work → 4 ≤ length marks → (b .answer .refusal ≡ 0 → ⊥)
-      → BackwardClaim workedPlain 2 6 work marks b → ⊥
+      → BackwardAgrees workedPlain 2 6 work marks b → ⊥
   pub forward-always-refused : (work marks : List ℕ) (f : ForwardTrace) → 5 ≤ length work → 4 ≤ length marks → (f .answer .refusal ≡ 0 → ⊥)
-      → ForwardClaim workedPlain 3 0 work marks f → ⊥
+      → ForwardAgrees workedPlain 3 0 work marks f → ⊥
   -- "a trail that keeps no edge (demands 2 and 3)"; time 6 dropped
   pub no-edge : NoTables (λ c t. c .edges ≡ 0)
   pub no-edge-traced : (c : Counts) (t : Tables) (work marks : List ℕ) → c .edges ≡ 0 → 5 ≤ length work → 4 ≤ length marks
-      → BackwardClaim workedPlain 2 6 work marks (backwardOf c t 2 6 work marks) → ⊥
+      → BackwardAgrees workedPlain 2 6 work marks (backwardOf c t 2 6 work marks) → ⊥
   pub time-6-dropped : NoTables (λ c t. c .edges ≡ 3)
   -- every version widened; a new version for every kept event
   pub widen-always : NoTables (λ c t. c .versions ≡ 4)
