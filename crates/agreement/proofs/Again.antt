@@ -98,11 +98,13 @@ module _ (F : Trail) (cap : Capacity) (w : Within cap) (room : EnoughRows cap (F
     sort-again : (x : ℕ) → x < T .counts .entities → T .entity x .sort ≡ worked R .entity x .sort
     sort-again x l = before .sorts x l ∙ sym (r .sorts x (omega (arith, before .entities)))
 
+    edge-again : worked R .counts .edges < cap .edges
+    edge-again = omega (arith, r .edges, step .edges, b .edges, room .edges)
+
     room-again : (x : Decision) → made x ≡ made d → RoomLeft cap (worked R .counts) x
     room-again (Repeat j) h = tt
-    room-again Widen h = omega (arith, r .edges, step .edges, b .edges, room .edges)
-    room-again Renew h =
-        (omega (arith, r .edges, step .edges, b .edges, room .edges), omega (arith, h, r .versions, b .versions, step .versions, step .entities, room .versions))
+    room-again Widen h = edge-again
+    room-again Renew h = (edge-again, omega (arith, h, r .versions, b .versions, step .versions, step .entities, room .versions))
 
     taken-again : EventTaken cap (worked R) e d
     taken-again = record {
@@ -118,7 +120,8 @@ module _ (F : Trail) (cap : Capacity) (w : Within cap) (room : EnoughRows cap (F
 
     step-again : KeptStep (worked R) (worked (records.Event e ∷ R)) e (made d)
     unfolding changeOf
-    step-again = subst (λ (x : Decision). KeptStep (worked R) (changed (worked R) (happened (worked R) e x)) e (made d)) (sym decided) (happened-step (worked R) e d k)
+    step-again =
+        subst (λ (x : Decision). KeptStep (worked R) (changed (worked R) (happened (worked R) e x)) e (made d)) (sym decided) (happened-step (worked R) e d k)
 
     passes-again : refusalOf cap (worked R) (records.Event e) ≡ Passed
     unfolding refusalOf

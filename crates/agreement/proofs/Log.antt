@@ -16,7 +16,7 @@ use Rattle.agreement.proofs.Relogged.{descending, relogged}
 -- two trails whose edges are the same events
 pub events-same : (T U : Trail) (ks : List Event) → Logged T ks → Logged U ks → (k : ℕ) → k < length ks → eventRecord U k ≡ eventRecord T k
 events-same T U [] a b k l = absurd (omega arith)
-events-same T U (e ∷ ks) a b k l = go (ℕ-discrete k (length ks)) (λ h. events-same T U ks (a .1) (b .1) k h)
+events-same T U (e ∷ ks) a b k l = go (ℕ-discrete k (length ks)) (λ h. events-same T U ks (a .2) (b .2) k h)
   where
     go : Dec (k ≡ length ks) → (k < length ks → eventRecord U k ≡ eventRecord T k) → eventRecord U k ≡ eventRecord T k
     go (yes q) ih = rw q (b .0 ∙ sym (a .0))
@@ -29,7 +29,7 @@ recordsBelow-reverse f (suc n) more = append-assoc (recordsBelow f n) (f n ∷ [
 
 relogged-is : (T : Trail) (ks : List Event) → Logged T ks → relogged T ks ≡ descending (eventRecord T) (length ks) ++ descending (declarationRecord T) (T .counts .entities)
 relogged-is T [] a = refl
-relogged-is T (e ∷ ks) a = λ j. sym (a .0) j ∷ relogged-is T ks (a .1) j
+relogged-is T (e ∷ ks) a = λ j. sym (a .0) j ∷ relogged-is T ks (a .2) j
 
 pub logRecords-reverse : (T : Trail) (ks : List Event) → T .counts .edges ≡ length ks → Logged T ks → logRecords T ≡ reverse (relogged T ks)
 unfolding logRecords

@@ -22,7 +22,7 @@ module _ (c : Counts) (t : Tables) where
       subst (BatchPromise c t file) (sym q)
       (record {
         framed = frame c t file;
-        left = λ cs l. after-batch cs c t l file;
+        goes-on = λ cs l. after-batch cs c t l file;
         answer = λ cs l. demand2 .answer cs c t l file;
         holds = λ cs l. demand2 .holds _ _ _ (after-batch cs c t l file);
       })

@@ -68,6 +68,7 @@ refuted = record {
   time-6-dropped = λ c t w h. omega (arith, edges-are h);
   widen-always = λ c t w h. omega (arith, versions-are h);
   renew-always = λ c t w h. omega (arith, versions-are h);
+  version-each-event = λ c t w h. omega (arith, versions-are h);
   first-record-counted = λ c t w h. omega (arith, entities-are h);
   accepted-free = λ c t w h. w (accepted-are h);
   last-without-repeat = λ c t w h. omega (arith, last-is h);
@@ -82,7 +83,6 @@ refuted = record {
   refused-for-another = λ a w g. w (ap (λ (z : BatchAnswer). z .refusal) (answer-is 3 a g ∙ rows .p11));
   more-than-the-file = eleven 12 (λ q. omega arith);
   gain-dropped = λ hs q w g. let k = time-6-kept hs q g in w (k .0) (k .1) (k .2);
-  version-each-event = λ c t e d v a. omega (arith, a .versions);
   log-always-refused = λ c t out k l w a. w (a .refusal ∙ log-not-refused out l);
   log-of-no-event = λ b w a. omega (arith, a .same .edges, ap (λ (z : Counts). z .edges) (rows .p1-counts));
   log-refused = λ b w a. w (ap (λ (z : BatchAnswer). z .refusal) (a .answer));

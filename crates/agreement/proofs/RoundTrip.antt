@@ -58,10 +58,10 @@ module _ (c : Counts) (t : Tables) (out : List ℕ) (s : isSound (capacityOf t) 
 
   -- the log is as long as the plain list says
   log-refusal : (rs : List Record) → c ≡ worked rs .counts
-      → keptLogOf c t out .answer .refusal ≡ cond (ltb (length out) (logLength (worked rs .counts))) (refusalNo OutputShort) 0
+      → keptLogOf c t out .answer .refusal ≡ cond (ltb (length out) (length (logBytes (worked rs)))) (refusalNo OutputShort) 0
   unfolding keptLogOf logChecks firstOf
   log-refusal rs same =
-      let e : length (logBytes (trailOf c t)) ≡ logLength (worked rs .counts) = length-logBytes (trailOf c t) ∙ ap logLength same in
+      let e : length (logBytes (trailOf c t)) ≡ length (logBytes (worked rs)) = length-logBytes (trailOf c t) ∙ ap logLength same ∙ sym (length-logBytes (worked rs)) in
       rw s (answered-number (ltb (length out) (length (logBytes (trailOf c t)))) ∙ ap (λ (n : ℕ). cond (ltb (length out) n) (refusalNo OutputShort) 0) e)
 
   log-passed : keptLogOf c t out .answer .refusal ≡ 0 → firstOf (logChecks c t out) ≡ Passed

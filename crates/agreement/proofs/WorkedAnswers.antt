@@ -22,12 +22,13 @@ use Rattle.rules.specs.declared.ForwardAnswer.{ForwardAnswer}
 use Rattle.rules.specs.Trail.{Tables, trailOf, counts, freshCounts, none}
 use Rattle.rules.specs.Backward.{traceRefusals, BackwardTrace}
 use Rattle.rules.specs.Forward.{ForwardTrace}
+use Rattle.rules.specs.KeptLog.{logBytes}
 use Rattle.rules.specs.PlainList.{worked}
 use Rattle.rules.specs.Calls.{plainAfter}
 use Rattle.rules.specs.Worked.{room, file, batch, backward, forward, WorkedTrail}
 use Rattle.rules.proofs.Cases.{cases}
 use Rattle.closure.specs.Same.{SameRows}
-use Rattle.kept_log.specs.Written.{logLength}
+use Rattle.kept_log.proofs.LogRecords.{length-logBytes}
 use Rattle.agreement.specs.Left.{LeftBy}
 use Rattle.agreement.specs.Demand2.{Holds, Answered}
 use Rattle.agreement.specs.Demand3.{BackwardAgrees, ForwardAgrees}
@@ -102,11 +103,11 @@ not-refused x work marks l w m =
     (all-false-passed _ (lt-leb (n .entities) x (omega (arith, four)), (le-ltb (length work) (n .versions) (omega (arith, five)), (le-ltb (length marks) (n .entities) (omega (arith, four)), tt))))
 
 -- a writer with an output of 104 bytes or more is not refused
-pub log-not-refused : (out : List ℕ) → 104 ≤ length out → cond (ltb (length out) (logLength (worked workedPlain .counts))) (refusalNo OutputShort) 0 ≡ 0
+pub log-not-refused : (out : List ℕ) → 104 ≤ length out → cond (ltb (length out) (length (logBytes (worked workedPlain)))) (refusalNo OutputShort) 0 ≡ 0
 log-not-refused out l =
     let n = worked workedPlain .counts in
     let e : n .edges ≡ 4 = ap (λ (c : Counts). c .edges) (sym (worked-holds .counts)) ∙ edges-are worked-holds in
-    ap (λ (b : Bool). cond b (refusalNo OutputShort) 0) (le-ltb (length out) (logLength n) (omega (arith, four)))
+    ap (λ (b : Bool). cond b (refusalNo OutputShort) 0) (le-ltb (length out) (length (logBytes (worked workedPlain))) (omega (arith, four, length-logBytes (worked workedPlain))))
 
 -- the same bytes for the four entities
 marks-are : (marks : List ℕ) {marks′ left : List ℕ} → SameMarks (worked workedPlain .counts .entities) marks marks′ → marks′ ≡ left → SameMarks 4 marks left

@@ -30,7 +30,8 @@ pub record Holds (rs : List Record) (c : Counts) (t : Tables) : Type 0 where
   -- "Over a trail grown from fresh, versions ≤ entities + edges."
   pub versions : c .versions ≤ c .entities + c .edges
 
--- a batch's answer, where the file was taken in after the plain list rs, which then was rs′: by so many of the file's records, in order
+-- a batch's answer, where the file was taken in after the plain list rs, which then was rs′: rs with the first `taken` records
+-- of the file added, in order
 pub record Answered (rs : List Record) (t : Tables) (file : List ℕ) (rs′ : List Record) (a : BatchAnswer) : Type 0 where
   pub refusal : a .refusal ≡ numberOf (refusedBy (capacityOf t) rs file)
   pub among : a .taken ≤ length (contentsOf file .records)

@@ -28,8 +28,7 @@ pub record MarksAre (n : ℕ) (M : ℕ → Type 0) (marks : List ℕ) (count : �
 -- Backward from v at a time: otherwise exactly the entities with a causal path in by then are marked
 pub record BackwardAgrees (rs : List Record) (v time : ℕ) (work marks : List ℕ) (b : BackwardTrace) : Type 0 where
   pub refusal : b .answer .refusal ≡ numberOf (firstOf (traceRefusals (worked rs .counts) v work marks))
-  pub marks-are : b .answer .refusal ≡ 0
-      → MarksAre (worked rs .counts .entities) (λ x. PathBy (accepted (itemsOf rs)) time x v) (b .marks) (b .answer .count)
+  pub marks-are : b .answer .refusal ≡ 0 → MarksAre (worked rs .counts .entities) (λ x. PathBy (accepted (itemsOf rs)) time x v) (b .marks) (b .answer .count)
 
 -- Forward from u at a time: otherwise exactly those reached from the latest kept intake at or before it, or from time 0 if there is none;
 -- the intake given is that one's time, 0 if there is none; never less than the full log's answer at the time

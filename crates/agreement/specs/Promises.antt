@@ -1,5 +1,5 @@
--- What the promise of each public call carries beside its equation, of what the call was lent and what it left: the claims of
--- demands 2 and 3 for every list of calls that leaves what it was lent. b, f and k are what the call returned and left.
+-- What the promise of each public call carries beside its equation: what demands 2 and 3 claim of the call, for every list of calls that
+-- leaves what it was lent. b, f and k are what the call returned and left.
 use Prim.Native.Nat.{ℕ}
 use mathlib.Core.List.{List, _∷_}
 use Rattle.rows.specs.declared.Counts.{Counts}
@@ -19,7 +19,7 @@ use Rattle.agreement.specs.RoundTrip.{LogAgrees}
 -- the list with this batch leaves what the batch left; that holds the records taken in
 pub record BatchPromise (c : Counts) (t : Tables) (file : List ℕ) (b : Batched) : Type 0 where
   pub framed : Framed c t b
-  pub left : (cs : List Call) → LeftBy cs c t → LeftBy (batch t file ∷ cs) (b .counts) (b .tables)
+  pub goes-on : (cs : List Call) → LeftBy cs c t → LeftBy (batch t file ∷ cs) (b .counts) (b .tables)
   pub answer : (cs : List Call) → LeftBy cs c t → Answered (plainAfter cs) t file (plainAfter (batch t file ∷ cs)) (b .answer)
   pub holds : (cs : List Call) → LeftBy cs c t → Holds (plainAfter (batch t file ∷ cs)) (b .counts) (b .tables)
 

@@ -31,7 +31,7 @@ use Rattle.agreement.specs.RoundTrip.{TakenAgain, LogAgrees}
 abbrev pub SameMarks : ℕ → List ℕ → List ℕ → Type 0
 SameMarks n marks marks′ = (x : ℕ) → x < n → getD marks x 0 ≡ getD marks′ x 0
 
--- For any plain list, two answers of which a claim holds are the same, if they are not refused, whatever the buffers lent
+-- For any plain list, two answers of which a claim holds are the same; of traces, if they are not refused, whatever the buffers lent
 pub record Determined : Type 0 where
   pub backward : (rs : List Record) (v time : ℕ) (work marks work′ marks′ : List ℕ) (b b′ : BackwardTrace) → BackwardAgrees rs v time work marks b
       → BackwardAgrees rs v time work′ marks′ b′ → b .answer .refusal ≡ 0 → b′ .answer .refusal ≡ 0
@@ -126,6 +126,8 @@ pub record Refuted : Type 0 where
   -- every version widened; a new version for every kept event
   pub widen-always : NoTables (λ c t. c .versions ≡ 4)
   pub renew-always : NoTables (λ c t. c .versions ≡ 8)
+  -- a version for each accepted event, besides the entities'
+  pub version-each-event : NoTables (λ c t. c .versions ≡ 11)
   -- "one that handles the first record and skips the rest", in the counts; by what it says it took in, below
   pub first-record-counted : NoTables (λ c t. c .entities ≡ 1)
   -- "accepted counts .. picked freely"; a last time that a repeat does not set
@@ -149,8 +151,6 @@ pub record Refuted : Type 0 where
   -- The same events accepted and none kept at 6, as when no edge is kept: 2 gains 3 by it
   pub gain-dropped : (hs : List Item) → accepted hs ≡ accepted (itemsOf workedPlain) → ((e : Event) → List·Memᴰ e (keptEvents hs) → e .time ≡ 6 → ⊥)
       → GainsAreKept hs → ⊥
-  -- a version for each accepted event, besides the entities'
-  pub version-each-event : (c : Counts) (t : Tables) → c .entities ≡ 4 → c .edges ≡ 4 → c .versions ≡ 11 → Holds workedPlain c t → ⊥
   -- the writer refused though the output has the 104 bytes of the log
   pub log-always-refused : (c : Counts) (t : Tables) (out : List ℕ) (k : KeptLog) → 104 ≤ length out → (k .answer .refusal ≡ 0 → ⊥)
       → LogAgrees (workedCalls 8) c t out k → ⊥

@@ -13,10 +13,9 @@ use Rattle.rules.specs.Trail.{Tables, capacityOf, Trail, trailOf, freshCounts}
 use Rattle.rules.specs.Batch.{Batched, batchOf}
 use Rattle.rules.specs.Backward.{backwardOf}
 use Rattle.rules.specs.Forward.{forwardOf}
-use Rattle.rules.specs.KeptLog.{eventRecord, KeptLog, keptLogOf}
+use Rattle.rules.specs.KeptLog.{eventRecord, logBytes, KeptLog, keptLogOf}
 use Rattle.rules.specs.PlainList.{worked}
 use Rattle.rules.specs.Calls.{Call, EnoughRows, plainAfter}
-use Rattle.kept_log.specs.Written.{logLength}
 use Rattle.agreement.specs.Left.{LeftBy}
 
 -- the same entities and kept events: those of U are those of T
@@ -40,11 +39,11 @@ pub record TakenAgain (c : Counts) (t : Tables) (b : Batched) : Type 0 where
   pub same : SameTrail (trailOf c t) (trailOf (b .counts) (b .tables))
   pub calls : SameCalls c t (b .counts) (b .tables)
 
--- What a writer lent out returns and leaves after the calls cs: it is refused only with 15, if by the plain list the output is shorter than
--- the header, the declarations and the kept events; if it is not refused, and the last time is a 32-bit number, as in a counts record, it
--- wrote a log that a fresh trail takes in again, in tables that hold anything
+-- What a writer lent out returns and leaves after the calls cs: it is refused only with 15, if the output is shorter than the kept log by
+-- the plain list; if it is not refused, and the last time is a 32-bit number, as in a counts record, it wrote a log that a fresh trail takes
+-- in again, in tables that hold anything
 pub record LogAgrees (cs : List Call) (c : Counts) (t : Tables) (out : List ℕ) (k : KeptLog) : Type 0 where
-  pub refusal : k .answer .refusal ≡ cond (ltb (length out) (logLength (worked (plainAfter cs) .counts))) (refusalNo OutputShort) 0
+  pub refusal : k .answer .refusal ≡ cond (ltb (length out) (length (logBytes (worked (plainAfter cs))))) (refusalNo OutputShort) 0
   pub again : k .answer .refusal ≡ 0 → c .last < 4294967296 → (lent : Tables) → EnoughRows (capacityOf lent) c
       → TakenAgain c t (batchOf freshCounts lent (take (k .answer .length) (k .out)))
 

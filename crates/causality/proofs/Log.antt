@@ -30,7 +30,7 @@ edge-count g =
 -- edges that stand are the same events
 logged-stands : {T T′ : Trail} {last : ℕ} → Inv T last → Keeps T T′ → (ks : List Event) → length ks ≤ nd T → Logged T ks → Logged T′ ks
 logged-stands i o [] h a = tt
-logged-stands {T} {T′} i o (e ∷ ks) h a = (same ∙ a .0, logged-stands i o ks (omega arith) (a .1))
+logged-stands {T} {T′} i o (e ∷ ks) h a = (same ∙ a .0, o .kind-old n m ∙ a .1, logged-stands i o ks (omega arith) (a .2))
   where
     n : ℕ
     n = length ks
@@ -70,6 +70,7 @@ logged g = grown-ind Log (λ T _ _ _. tt) decl (λ T hs e g f l ih. ih) keep g
     keep : OnKept Log
     keep T T′ hs e w g k ih = (
       ap (eventRecord T′) (sym (edge-count g)) ∙ new-edge k,
+      ap (λ (n : ℕ). T′ .edge n .kind) (sym (edge-count g)) ∙ k .now .row .kind-new,
       logged-stands (inv g) (k .now .row .old) (keptEvents hs) (omega (arith, edge-count g)) ih,
     )
 

@@ -6,6 +6,7 @@ use mathlib.Core.List.{List, [], _∷_, _++_}
 use lib.ListN.{length}
 use Rattle.record.specs.declared.Event.{Event}
 use Rattle.record.specs.declared.Record.the-variants as records
+use Rattle.record.specs.Layout.{kindNo}
 use Rattle.rules.specs.Trail.{Trail}
 use Rattle.rules.specs.Paths.{PathBy, PathFrom, Gains}
 use Rattle.rules.specs.History.{Item, dropped, accepted, keptEvents, since, intakeTime, Reached}
@@ -16,10 +17,10 @@ use Rattle.rules.specs.KeptLog.{eventRecord}
 use Rattle.causality.specs.Working.{ne, nv, nd, EntityMarked, lastOf, Grown}
 use Rattle.causality.specs.Order.{OrderPath, upTo, above, Falling}
 
--- the edge whose number says how many events were kept before e is, as an event, e
+-- the edge whose number says how many events were kept before e is, as an event, e, and has its kind's number
 abbrev pub Logged : Trail → List Event → Type 0
 Logged T [] = Unit {0}
-Logged T (e ∷ ks) = (eventRecord T (length ks) ≡ records.Event e) × Logged T ks
+Logged T (e ∷ ks) = (eventRecord T (length ks) ≡ records.Event e) × (T .edge (length ks) .kind ≡ kindNo (e .kind)) × Logged T ks
 
 -- By the order of acceptance, for any working; times do not fall, and may be equal
 pub record Faithful (T : Trail) (hs : List Item) : Type 0 where

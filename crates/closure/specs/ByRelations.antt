@@ -62,8 +62,7 @@ pub record IsBackwardTrace (c : Counts) (t : Tables) (v time : ℕ) (work marks 
 -- f is what a forward call on these returns and leaves
 pub record IsForwardTrace (c : Counts) (t : Tables) (u time : ℕ) (work marks : List ℕ) (f : ForwardTrace) : Type 0 where
   pub refusal : f .answer .refusal ≡ numberOf (firstOf (traceChecks c t u work marks))
-  pub refused : (f .answer .refusal ≡ 0 → ⊥)
-      → f ≡ forwardTrace (record { refusal = f .answer .refusal; count = 0; intake = 0 }) work marks
+  pub refused : (f .answer .refusal ≡ 0 → ⊥) → f ≡ forwardTrace (record { refusal = f .answer .refusal; count = 0; intake = 0 }) work marks
   pub traced : f .answer .refusal ≡ 0 → (s : ℕ) × StartVersion (trailOf c t) u time s × IsIntake (trailOf c t) s time (f .answer .intake)
       × Marking (trailOf c t) (ForwardMarks (trailOf c t) s) work marks (f .work) (f .marks) (f .answer .count)
 

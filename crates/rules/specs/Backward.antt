@@ -52,7 +52,7 @@ backwardWork T v t = closed (T .counts .versions) (backwardArcs T (startOf T v t
 unfoldable pub backwardEntities : Trail → ℕ → ℕ → List ℕ
 backwardEntities T v t = marksBelow (T .version) (backwardWork T v t) (T .counts .versions) (T .counts .entities)
 
--- "A trace checks 16, 5, 14." "14. Mark or work buffer shorter than its count."
+-- 5, 14: "Mark or work buffer shorter than its count."
 abbrev pub traceRefusals : Counts → ℕ → List ℕ → List ℕ → List Check
 traceRefusals c x work marks =
     check (leb (c .entities) x) Undeclared
@@ -60,6 +60,7 @@ traceRefusals c x work marks =
     ∷ check (ltb (length marks) (c .entities)) BufferShort
     ∷ []
 
+-- "A trace checks 16, 5, 14."
 unfoldable pub traceChecks : Counts → Tables → ℕ → List ℕ → List ℕ → List Check
 traceChecks c t x work marks = check (not (isSound (capacityOf t) (trailOf c t))) Unsound ∷ traceRefusals c x work marks
 

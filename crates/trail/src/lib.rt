@@ -1,6 +1,6 @@
 // The public calls of the trail, with C names. The caller lends the counts, the tables and the buffers, and each call
 // leaves in them what a definition of document 01 makes of what was lent, where it refuses too. Beside that equation each
-// promise carries the claims of demands 2 and 3 for every list of calls that leaves what it was lent.
+// promise carries what demands 2 and 3 claim of the call, for every list of calls that leaves what it was lent.
 use rows::Counts;
 use rules::BackwardAnswer;
 use rules::BatchAnswer;
