@@ -16,7 +16,7 @@ use Rattle.record.specs.declared.Record.the-variants as records
 use Rattle.rules.specs.declared.Found.the-variants.{Nothing, At}
 use Rattle.rules.specs.Trail.{Capacity, Trail, latestOf}
 use Rattle.rules.specs.Decide.{goesTo, newestTo, leaves, folds, repeatOf, hasOutgoing, decide, decisionOf, edgeNo}
-use Rattle.rules.specs.Record.{declarationRefusals, endRefusals, timeRefusals, roomRefusals, eventRefusals, refusalOf}
+use Rattle.rules.specs.Record.{declarationRefusals, earlyRefusals, roomRefusals, eventRefusals, refusalOf}
 use Rattle.soundness.specs.Facts.{RowFacts}
 use Rattle.closure.specs.Same.{SameRows}
 
@@ -68,13 +68,13 @@ module _ {T T′ : Trail} (q : T .counts ≡ T′ .counts) (s : SameRows T T′)
 
     -- what the refusals of an event read of a trail
     refused-same : (cap : Capacity) → firstOf (eventRefusals cap T e (decisionOf T e)) ≡ firstOf (eventRefusals cap T′ e (decisionOf T′ e))
-    unfolding endRefusals timeRefusals roomRefusals eventRefusals
+    unfolding earlyRefusals roomRefusals eventRefusals
     refused-same cap = rw (decision-same, sort-same (e .source .0) i, sort-same (e .target .0) k, q)
 
   -- an undeclared entity is refused before anything is read of it
   undeclared-same : (cap : Capacity) (e : Event) → (b : Bool) → leb (T .counts .entities) (e .source .0) ≡ b → (c : Bool) → leb (T .counts .entities) (e .target .0) ≡ c
       → firstOf (eventRefusals cap T e (decisionOf T e)) ≡ firstOf (eventRefusals cap T′ e (decisionOf T′ e))
-  unfolding endRefusals timeRefusals roomRefusals eventRefusals firstOf
+  unfolding earlyRefusals roomRefusals eventRefusals firstOf
   undeclared-same cap e true b c z = rw (b, ← q, b)
   undeclared-same cap e false b true z = rw (b, z, ← q, b, z)
   undeclared-same cap e false b false z = refused-same e (leb-false _ _ b) (leb-false _ _ z) cap

@@ -13,7 +13,7 @@ use Rattle.rules.specs.declared.Decision.{Decision}
 use Rattle.rules.specs.declared.Decision.the-variants.{Repeat, Widen, Renew}
 use Rattle.rules.specs.Trail.{Capacity, Trail}
 use Rattle.rules.specs.Sound.{mayFollow}
-use Rattle.rules.specs.Record.{declarationRefusals, endRefusals, timeRefusals, roomRefusals, eventRefusals, happened}
+use Rattle.rules.specs.Record.{declarationRefusals, earlyRefusals, roomRefusals, eventRefusals, happened}
 use Rattle.rules.specs.PlainList.{changed}
 use Rattle.rules.specs.History.{kept, itemOf}
 use Rattle.soundness.specs.Taken.{DeclarationTaken, RoomLeft, EventTaken}
@@ -31,7 +31,7 @@ room-passes cap c Widen l = (lt-leb _ _ l, tt)
 room-passes cap c Renew l = (lt-leb _ _ (l .0), (lt-leb _ _ (l .1), tt))
 
 pub event-passes : (cap : Capacity) (T : Trail) (e : Event) (d : Decision) → EventTaken cap T e d → firstOf (eventRefusals cap T e d) ≡ Passed
-unfolding endRefusals timeRefusals eventRefusals mayFollow
+unfolding earlyRefusals eventRefusals mayFollow
 event-passes cap T e d p =
     all-false-passed _ (
       lt-leb _ _ (p .source-in),

@@ -13,7 +13,7 @@ use Rattle.record.specs.Header.{headerChecks}
 use Rattle.record.specs.Decode.{declarationChecks, eventChecks, decodeOf, decodeFrom}
 use Rattle.rules.specs.Sound.{isObject, isSubject, sourceFits, targetFits, mayFollow}
 use Rattle.rules.specs.Decide.{goesTo, newestTo, leaves, repeatOf, hasOutgoing, decisionOf}
-use Rattle.rules.specs.Record.{declarationRefusals, endRefusals, timeRefusals, roomRefusals, eventRefusals, refusalOf, changeOf}
+use Rattle.rules.specs.Record.{declarationRefusals, earlyRefusals, roomRefusals, eventRefusals, refusalOf, changeOf}
 use Rattle.rules.specs.Batch.{readFrom, contentsOf}
 use Rattle.rules.specs.History.{Item, kept, dropped}
 use Rattle.rules.specs.PlainList.{put, worked, itemsOf, added, addedBy}
@@ -34,5 +34,5 @@ pub record Computed : Type 0 where
   pub entities : worked longerPlain .counts .entities ≡ 4
 
 pub computed : Computed
-unfolding firstOf entityAt versionAt edgeAt entityCapacity versionCapacity edgeCapacity kindOf headerChecks declarationChecks eventChecks decodeOf decodeFrom isObject isSubject sourceFits targetFits mayFollow goesTo newestTo leaves repeatOf hasOutgoing decisionOf declarationRefusals endRefusals timeRefusals roomRefusals eventRefusals refusalOf changeOf readFrom contentsOf put added addedBy
+unfolding firstOf entityAt versionAt edgeAt entityCapacity versionCapacity edgeCapacity kindOf headerChecks declarationChecks eventChecks decodeOf decodeFrom isObject isSubject sourceFits targetFits mayFollow goesTo newestTo leaves repeatOf hasOutgoing decisionOf declarationRefusals earlyRefusals roomRefusals eventRefusals refusalOf changeOf readFrom contentsOf put added addedBy
 computed = record { items = refl; longer = refl; entities = refl }
