@@ -13,7 +13,7 @@ pub and-parts : (a b : Bool) → a && b ≡ true → (a ≡ true) × (b ≡ true
 and-parts true b h = (refl, h)
 and-parts false b h = absurd (let z : _≡_ {A = ℕ} 0 1 = cc in omega arith)
 
-and-of : (a b : Bool) → a ≡ true → b ≡ true → a && b ≡ true
+pub and-of : (a b : Bool) → a ≡ true → b ≡ true → a && b ≡ true
 and-of a b p q = rw (p, q)
 
 -- test i of them, true past the end

@@ -7,7 +7,7 @@ use Rattle.rows.specs.declared.Counts.{Counts}
 use Rattle.rules.specs.Trail.{Capacity, Trail, none, ownerOf}
 use Rattle.rules.specs.Sound.{allBelow, mayFollow, timeBefore, soundCounts, soundEntity, soundPrevious, soundVersion, entityTest, versionTest, edgeTest, isSound}
 use Rattle.soundness.specs.Facts.{CountFacts, EntityFacts, VersionFacts, EdgeFacts, RowFacts}
-use Rattle.soundness.proofs.All.{every-at, all-at}
+use Rattle.soundness.proofs.All.{and-parts, every-at, all-at}
 use Rattle.soundness.proofs.Edges.{timeBefore-suc}
 
 pub counts-facts : (cap : Capacity) (c : Counts) → soundCounts cap c ≡ true → CountFacts cap c
@@ -82,29 +82,22 @@ module _ (T : Trail) where
     edge-after h = ltb-true _ _ (every-at _ h 8)
 
 module _ (cap : Capacity) (T : Trail) (s : isSound cap T ≡ true) where
-  counts-sound : soundCounts cap (T .counts) ≡ true
+  parts : (soundCounts cap (T .counts) ≡ true) × (allBelow (entityTest T) (T .counts .entities) ≡ true)
+      × (allBelow (versionTest T) (T .counts .versions) ≡ true) × (allBelow (edgeTest T) (T .counts .edges) ≡ true)
   unfolding isSound
-  counts-sound = every-at _ s 0
-
-  entities-sound : allBelow (entityTest T) (T .counts .entities) ≡ true
-  unfolding isSound
-  entities-sound = every-at _ s 1
-
-  versions-sound : allBelow (versionTest T) (T .counts .versions) ≡ true
-  unfolding isSound
-  versions-sound = every-at _ s 2
-
-  edges-sound : allBelow (edgeTest T) (T .counts .edges) ≡ true
-  unfolding isSound
-  edges-sound = every-at _ s 3
+  parts =
+      let p = and-parts _ _ s in
+      let q = and-parts _ _ (p .0) in
+      let r = and-parts _ _ (q .0) in
+      (r .0, r .1, q .1, p .1)
 
   pub sound-counts : CountFacts cap (T .counts)
-  sound-counts = counts-facts cap (T .counts) counts-sound
+  sound-counts = counts-facts cap (T .counts) (parts .0)
 
   pub sound-rows : RowFacts T
   sound-rows = record {
-    entity = λ x l. entity-facts T x (all-at _ _ entities-sound x l);
-    version = λ k l. version-facts T k (all-at _ _ versions-sound k l);
-    edge = λ k l. edge-facts T k (all-at _ _ edges-sound k l);
-    rises = λ k l. let h = edge-after T (suc k) (all-at _ _ edges-sound (suc k) l) in rw timeBefore-suc at h;
+    entity = λ x l. entity-facts T x (all-at _ _ (parts .1) x l);
+    version = λ k l. version-facts T k (all-at _ _ (parts .2) k l);
+    edge = λ k l. edge-facts T k (all-at _ _ (parts .3) k l);
+    rises = λ k l. let h = edge-after T (suc k) (all-at _ _ (parts .3) (suc k) l) in rw timeBefore-suc at h;
   }

@@ -9,7 +9,7 @@ use Rattle.refusals.proofs.Checks.{not-true-of, pick-true, pick-false}
 use Rattle.rules.specs.Trail.{Capacity, Trail}
 use Rattle.rules.specs.Sound.{mayFollow, timeBefore, soundCounts, soundEntity, soundPrevious, soundVersion, entityTest, versionTest, edgeTest, isSound}
 use Rattle.soundness.specs.Facts.{CountFacts, EntityFacts, VersionFacts, EdgeFacts, RowFacts}
-use Rattle.soundness.proofs.All.{done, _also_, hold-every, at-all}
+use Rattle.soundness.proofs.All.{and-of, done, _also_, hold-every, at-all}
 use Rattle.soundness.proofs.Edges.{timeBefore-zero, timeBefore-suc}
 
 pub counts-pass : (cap : Capacity) (c : Counts) → CountFacts cap c → soundCounts cap c ≡ true
@@ -62,4 +62,8 @@ module _ (T : Trail) where
     pub facts-sound : (cap : Capacity) → CountFacts cap (T .counts) → isSound cap T ≡ true
     unfolding isSound
     facts-sound cap g =
-        hold-every (counts-pass cap (T .counts) g also at-all _ _ (λ x l. entity-passes x (f .entity x l)) also at-all _ _ (λ k l. version-passes k (f .version k l)) also at-all _ _ (λ k l. edge-passes k (f .edge k l) (after k l)) also done)
+        and-of _ _
+        (and-of _ _
+        (and-of _ _ (counts-pass cap (T .counts) g) (at-all _ _ (λ x l. entity-passes x (f .entity x l))))
+        (at-all _ _ (λ k l. version-passes k (f .version k l))))
+        (at-all _ _ (λ k l. edge-passes k (f .edge k l) (after k l)))

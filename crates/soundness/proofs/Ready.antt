@@ -15,7 +15,7 @@ use Rattle.rules.specs.Sound.{allBelow, soundCounts, entityTest, versionTest, e
 use Rattle.soundness.specs.Facts.{CountFacts, EntityFacts, VersionFacts}
 use Rattle.soundness.specs.Parts.{Owners, RowsReady, VersionsReady, codedTest}
 use Rattle.soundness.proofs.All.{all-at}
-use Rattle.soundness.proofs.Tests.{tests, sort-low, true-by-not}
+use Rattle.soundness.proofs.Tests.{ands, sort-low, true-by-not}
 use Rattle.soundness.proofs.Facts.{counts-facts, entity-facts, version-facts}
 use Rattle.soundness.proofs.Coded.{coded-is}
 
@@ -64,4 +64,4 @@ module _ (c : Counts) (es vs ds owners₀ : List ℕ) (f : RowsReady c (tables e
     unfolding isSound entityTest versionTest
     coded-sound u q =
         let d : u ≡ allBelow (edgeTest T) (c .edges) = q ∙ (λ i. allBelow (λ k. coded-is T owners entity-at version-at (v .1 (not-false t t-true)) k i) (c .edges)) in
-        search (tests, true-by-not) depth 8
+        search ands depth 8

@@ -1,13 +1,14 @@
--- `search tests` proves that what a row of early returns gave is what `every` or `cond` says of the tests.
+-- `search tests` proves that what a row of early returns gave is what `every` or `cond` says of the tests, `search ands` what `_&&_` says.
 use Prim.Native.Nat.{ℕ, _≤_, _<_}
 use native.Mathlib.Omega.{arith}
 use mathlib.Core.Path.{_≡_, refl, sym, _∙_}
-use mathlib.Core.Bool.{Bool, true, false, not, _||_, and-true, true≢false}
+use mathlib.Core.Bool.{Bool, true, false, not, _&&_, _||_, and-true, true≢false}
 use mathlib.Core.List.{List, [], _∷_}
 use lib.Dec.{leb, eqb}
 use borrow.Author.Tests.{eq-eqb, ne-eqb, eqb-false, leb-true, leb-false, not-true, not-false}
 use Rattle.refusals.proofs.Checks.{pick-true, pick-false, plain}
 use Rattle.rules.specs.Sound.{every, isObject, isSubject}
+use Rattle.soundness.proofs.All.{and-of}
 
 pub every-false : (b : Bool) (bs : List Bool) → b ≡ false → false ≡ every (b ∷ bs)
 unfolding every
@@ -49,5 +50,18 @@ true-by-not b r p h = sym p ∙ not-false r h
 
 pub false-by-not : (b r : Bool) → r ≡ b → not r ≡ true → b ≡ false
 false-by-not b r p h = sym p ∙ not-true r h
+
+-- one test and another
+module _ (a b : Bool) where
+  pub and-false : false ≡ a → false ≡ a && b
+  and-false e = rw (← e)
+
+  pub and-next : (x : Bool) → a ≡ true → x ≡ b → x ≡ a && b
+  and-next x e p = rw e p
+
+pub false-of : (b r : Bool) → r ≡ b → not r ≡ true → false ≡ b
+false-of b r p h = sym (false-by-not b r p h)
+
+pub ruleset ands = (and-false, and-next, and-of, true-by-not, false-of)
 
 pub ruleset tests = (pick-true, pick-false, every-false, every-next, every-last, plain, sort-true, sort-false)

@@ -1,6 +1,6 @@
 -- The first two tests of `isSound`; the others go by codes, in an array that has room for them.
 use Rattle.rules.specs.Sound.{isSound, entityTest}
-use Rattle.soundness.proofs.Tests.{tests, true-by-not, false-by-not}
+use Rattle.soundness.proofs.Tests.{ands}
 use Rattle.soundness.proofs.Ready.{rows-ready, rows-ready-most}
 use borrow.Author.Needs.{needs}
 use Rattle.soundness.proofs.is_sound.Statement.{statement}
@@ -11,14 +11,14 @@ counts-ok-requires c κs = search needs
 
 returns : tie.Need-returns
 unfolding isSound
-returns c = search (tests, false-by-not) depth 8
+returns c = search ands depth 8
 
 entities-ok-requires : tie.Need-entities-ok-requires
 entities-ok-requires c κs = search needs
 
 returns-2 : tie.Need-returns-2
 unfolding isSound entityTest
-returns-2 c = search (tests, true-by-not, false-by-not) depth 8
+returns-2 c = search ands depth 8
 
 slice-aggregate-rows-ok : tie.Need-slice-aggregate-rows-ok
 slice-aggregate-rows-ok c = search needs

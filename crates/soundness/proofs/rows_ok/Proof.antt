@@ -1,6 +1,6 @@
 -- The last two tests of `isSound`; that of the edges goes by the codes that the one before wrote.
 use Rattle.rules.specs.Sound.{isSound, versionTest}
-use Rattle.soundness.proofs.Tests.{tests, false-by-not}
+use Rattle.soundness.proofs.Tests.{ands}
 use Rattle.soundness.proofs.Ready.{versions-ready, codes-in, edges-in, coded-sound}
 use borrow.Author.Needs.{needs}
 use Rattle.soundness.proofs.rows_ok.Statement.{statement}
@@ -14,7 +14,7 @@ same-length c = search needs
 
 returns : tie.Need-returns
 unfolding isSound versionTest
-returns c = search (tests, false-by-not) depth 8
+returns c = search ands depth 8
 
 edges-ok-requires : tie.Need-edges-ok-requires
 edges-ok-requires c κs = (search codes-in, search edges-in)
