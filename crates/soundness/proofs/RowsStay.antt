@@ -2,7 +2,7 @@
 use Prim.Native.Nat.{ℕ, _≤_, _<_}
 use native.Mathlib.Omega.{arith}
 use mathlib.Core.Path.{_≡_, refl, ap}
-use mathlib.Core.Logic.{inl, inr, ⊎-elim}
+use mathlib.Core.Logic.{_⊎_, inl, inr, ⊎-elim}
 use Rattle.refusals.specs.declared.Checked.the-variants.{Passed}
 use Rattle.rows.specs.declared.EntityRow.{EntityRow}
 use Rattle.rows.specs.declared.VersionRow.{VersionRow}
@@ -13,13 +13,13 @@ use Rattle.record.specs.declared.Record.the-variants as records
 use Rattle.rows.specs.Rows.{entityRow}
 use Rattle.rules.specs.declared.Decision.{Decision}
 use Rattle.rules.specs.declared.Decision.the-variants.{Repeat, Widen, Renew}
-use Rattle.rules.specs.Trail.{Capacity, Trail}
+use Rattle.rules.specs.Trail.{Capacity, Trail, latestOf}
 use Rattle.rules.specs.Decide.{decisionOf}
 use Rattle.rules.specs.Record.{declared, renewed, refusalOf, happened, changeOf}
 use Rattle.rules.specs.PlainList.{put, changed}
 use Rattle.soundness.specs.Facts.{RowFacts}
 use Rattle.soundness.specs.Taken.{EventTaken}
-use Rattle.soundness.specs.Frame.{LatestOrAdded, RowsStay}
+use Rattle.soundness.specs.Frame.{RowsStay}
 use Rattle.soundness.proofs.Put.{put-other, put-cases}
 use Rattle.soundness.proofs.Taken.{event-taken}
 use Rattle.soundness.proofs.Extends.{Extends}
@@ -27,6 +27,10 @@ use Rattle.soundness.proofs.Declared.{declared-extends, other-entity}
 use Rattle.soundness.proofs.Repeated.{repeated-extends}
 use Rattle.soundness.proofs.Widened.{widened-extends}
 use Rattle.soundness.proofs.Renewed.{renewed-extends}
+
+-- the latest version of entity x in T′ is the one it has in T, or one that was added
+abbrev pub LatestOrAdded : Trail → Trail → ℕ → Type 0
+LatestOrAdded T T′ x = (latestOf T′ x ≡ latestOf T x) ⊎ ((T .counts .versions ≤ latestOf T′ x) × (latestOf T′ x < T′ .counts .versions))
 
 module _ (T : Trail) where
   -- what is left to show of T′ where it extends T: latest versions and ends
