@@ -22,15 +22,15 @@ pub record MarksAre (n : ℕ) (M : ℕ → Type 0) (marks : List ℕ) (count : �
   pub marked : (x : ℕ) → x < n → (getD marks x 0 ≡ 1) ↔ M x
   pub counted : CountOf (λ x. (x < n) × M x) count
 
--- What a trace lent work and marks after the records rs returned and left. "In such a list a trace is refused only with 5 or 14": if, by
+-- What a trace, lent work and marks after the records rs, returned and left. "In such a list a trace is refused only with 5 or 14": if, by
 -- the plain list, the entity is not declared, or a buffer is shorter than its count.
 
--- Backward from v at a time: otherwise exactly the entities with a causal path in by then are marked
+-- Backward from v at a time: if not refused, exactly the entities with a causal path to v in by then are marked
 pub record BackwardAgrees (rs : List Record) (v time : ℕ) (work marks : List ℕ) (b : BackwardTrace) : Type 0 where
   pub refusal : b .answer .refusal ≡ numberOf (firstOf (traceRefusals (worked rs .counts) v work marks))
   pub marks-are : b .answer .refusal ≡ 0 → MarksAre (worked rs .counts .entities) (λ x. PathBy (accepted (itemsOf rs)) time x v) (b .marks) (b .answer .count)
 
--- Forward from u at a time: otherwise exactly those reached from the latest kept intake at or before it, or from time 0 if there is none;
+-- Forward from u at a time: if not refused, exactly those reached from the latest kept intake at or before it, or from time 0 if there is none;
 -- the intake given is that one's time, 0 if there is none; never less than the full log's answer at the time
 pub record ForwardAgrees (rs : List Record) (u time : ℕ) (work marks : List ℕ) (f : ForwardTrace) : Type 0 where
   pub refusal : f .answer .refusal ≡ numberOf (firstOf (traceRefusals (worked rs .counts) u work marks))

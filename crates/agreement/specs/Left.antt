@@ -12,8 +12,8 @@ pub record LeftBy (cs : List Call) (c : Counts) (t : Tables) : Type 0 where
   pub counts : c ≡ heldAfter cs .counts
   pub rows : Lent (heldAfter cs) t
 
--- For what grows from a fresh trail there are such calls: none at all leave the fresh one, and each call goes on from what it is lent;
--- a batch does by its promise
+-- For what grows from a fresh trail there are such calls: the empty list leaves the fresh trail, a trace goes on from what it was lent,
+-- and a batch by its promise (`goes-on`)
 pub record Leaving : Type 0 where
   -- "All five zero is a fresh trail, whatever the tables hold."
   pub fresh : (t : Tables) → LeftBy [] freshCounts t

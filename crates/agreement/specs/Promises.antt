@@ -16,7 +16,7 @@ use Rattle.agreement.specs.Demand2.{Holds, Answered}
 use Rattle.agreement.specs.Demand3.{BackwardAgrees, ForwardAgrees}
 use Rattle.agreement.specs.RoundTrip.{LogAgrees}
 
--- the list with this batch leaves what the batch left; that holds the records taken in
+-- the calls with this batch added leave what it left; its answer is demand 2's; what it left holds the records taken in
 pub record BatchPromise (c : Counts) (t : Tables) (file : List ℕ) (b : Batched) : Type 0 where
   pub framed : Framed c t b
   pub goes-on : (cs : List Call) → LeftBy cs c t → LeftBy (batch t file ∷ cs) (b .counts) (b .tables)

@@ -39,9 +39,9 @@ pub record TakenAgain (c : Counts) (t : Tables) (b : Batched) : Type 0 where
   pub same : SameTrail (trailOf c t) (trailOf (b .counts) (b .tables))
   pub calls : SameCalls c t (b .counts) (b .tables)
 
--- What a writer lent out returns and leaves after the calls cs: it is refused only with 15, if the output is shorter than the kept log by
--- the plain list; if it is not refused, and the last time is a 32-bit number, as in a counts record, it wrote a log that a fresh trail takes
--- in again, in tables that hold anything
+-- What a writer lent out returns and leaves after the calls cs: it is refused only with 15, if the output is shorter than the kept log
+-- that the plain list gives; if it is not refused, and the last time is a 32-bit number, as in a counts record, it wrote a log that a
+-- fresh trail takes in again, in tables that hold anything
 pub record LogAgrees (cs : List Call) (c : Counts) (t : Tables) (out : List ℕ) (k : KeptLog) : Type 0 where
   pub refusal : k .answer .refusal ≡ cond (ltb (length out) (length (logBytes (worked (plainAfter cs))))) (refusalNo OutputShort) 0
   pub again : k .answer .refusal ≡ 0 → c .last < 4294967296 → (lent : Tables) → EnoughRows (capacityOf lent) c

@@ -17,7 +17,7 @@ use Rattle.rules.specs.KeptLog.{eventRecord}
 use Rattle.causality.specs.Working.{ne, nv, nd, EntityMarked, lastOf, Grown}
 use Rattle.causality.specs.Order.{OrderPath, upTo, above, Falling}
 
--- the edge whose number says how many events were kept before e is, as an event, e, and has its kind's number
+-- where n events were kept before e: edge n, read as an event, is e, and its kind is the number of e's kind
 abbrev pub Logged : Trail → List Event → Type 0
 Logged T [] = Unit {0}
 Logged T (e ∷ ks) = (eventRecord T (length ks) ≡ records.Event e) × (T .edge (length ks) .kind ≡ kindNo (e .kind)) × Logged T ks

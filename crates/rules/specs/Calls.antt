@@ -41,8 +41,8 @@ pub record EnoughRows (cap : Capacity) (c : Counts) : Type 0 where
   pub versions : c .versions ≤ cap .versions
   pub edges : c .edges ≤ cap .edges
 
--- "each call is lent the counts and rows in use as the call before left them, in tables of any length"; no batch leaves more rows than
--- there can be, so the room asked for is one of length alone
+-- "each call is lent the counts and rows in use as the call before left them, in tables of any length"; counts never
+-- pass the caps, so `room` asks only that the tables are long enough
 pub record Lent (h : Held) (t : Tables) : Type 0 where
   pub room : EnoughRows (capacityOf t) (h .counts)
   pub entity-rows : (k : ℕ) → k < h .counts .entities → entityAt (t .entities) k ≡ entityAt (h .tables .entities) k
