@@ -43,6 +43,10 @@ pub record CallCases : Type 0 where
   pub since-times : map (λ t. timesOf (since 1 t (itemsOf (plain 8)))) (0 ∷ 4 ∷ 5 ∷ [])
       ≡ (7 ∷ 6 ∷ 5 ∷ 4 ∷ 3 ∷ 2 ∷ 1 ∷ []) ∷ (7 ∷ 6 ∷ 5 ∷ 4 ∷ 3 ∷ 2 ∷ []) ∷ (7 ∷ 6 ∷ []) ∷ []
   pub intake-times : map (λ t. intakeTime 1 t (itemsOf (plain 8))) (0 ∷ 4 ∷ 5 ∷ []) ≡ 0 ∷ 1 ∷ 5 ∷ []
+  -- of the report at 1, 5 and 6: events into the stager are no intakes of it
+  pub report-since-times : map (λ t. timesOf (since 2 t (itemsOf (plain 8)))) (1 ∷ 5 ∷ 6 ∷ [])
+      ≡ (7 ∷ 6 ∷ 5 ∷ 4 ∷ 3 ∷ 2 ∷ 1 ∷ []) ∷ (7 ∷ 6 ∷ 5 ∷ 4 ∷ 3 ∷ []) ∷ (7 ∷ []) ∷ []
+  pub report-intake-times : map (λ t. intakeTime 2 t (itemsOf (plain 8))) (1 ∷ 5 ∷ 6 ∷ []) ≡ 0 ∷ 2 ∷ 6 ∷ []
   -- "the rows and counts that the records already in the plain list give when worked from none"
   pub worked-counts : worked (plain 8) .counts ≡ counts 4 5 4 7 7
   pub worked-entities : map (worked (plain 8) .entity) (0 ∷ 1 ∷ 2 ∷ 3 ∷ []) ≡ entityRow 0 0 ∷ entityRow 1 4 ∷ entityRow 0 2 ∷ entityRow 0 3 ∷ []
