@@ -4,7 +4,7 @@ use native.Mathlib.Omega.{arith}
 use mathlib.Core.Path.{_≡_, sym, _∙_, ap}
 use mathlib.Core.Bool.{Bool, true, false, cond}
 use mathlib.Core.List.{List}
-use lib.ListN.{length}
+use lib.ListN.{length, replicate}
 use lib.Dec.{leb, ltb}
 use Rattle.refusals.specs.declared.Refusal.the-variants.{Unsound, Undeclared, BufferShort}
 use Rattle.refusals.specs.declared.Checked.the-variants.{Passed, Refused}
@@ -15,10 +15,11 @@ use Rattle.rows.specs.declared.EntityRow.{EntityRow}
 use Rattle.rows.specs.declared.VersionRow.{VersionRow}
 use Rattle.rows.specs.declared.EdgeRow.{EdgeRow}
 use Rattle.rules.specs.declared.BatchAnswer.{BatchAnswer}
+use Rattle.rules.specs.declared.BackwardAnswer.{BackwardAnswer}
 use Rattle.rules.specs.PlainList.{worked}
 use Rattle.rules.specs.Backward.{traceRefusals}
 use Rattle.agreement.specs.Refuted.{workedPlain, NoAnswer, Refuted}
-use Rattle.agreement.proofs.WorkedAnswers.{rows, entities-are, versions-are, edges-are, accepted-are, last-is, stager-row, report-version, edge-at-6, answer-is, not-refused, log-not-refused, backward-is, forward-is}
+use Rattle.agreement.proofs.WorkedAnswers.{rows, entities-are, versions-are, edges-are, accepted-are, last-is, stager-row, report-version, edge-at-6, answer-is, p4-count, not-refused, log-not-refused, backward-is, forward-is}
 use Rattle.agreement.proofs.NoEdge.{no-edge-traced}
 use Rattle.agreement.proofs.LongerPaths.{montage-back, study-forward, montage-forward}
 use Rattle.agreement.proofs.GainDropped.{time-6-kept}
@@ -86,4 +87,5 @@ refuted = record {
   log-always-refused = λ c t out k l w a. w (a .refusal ∙ log-not-refused out l);
   log-of-no-event = λ b w a. omega (arith, a .same .edges, ap (λ (z : Counts). z .edges) (rows .p1-counts));
   log-refused = λ b w a. w (ap (λ (z : BatchAnswer). z .refusal) (a .answer));
+  log-other-trace = λ b w a. w (ap (λ (z : BackwardAnswer). z .count) (a .calls .backward-answer 2 6 (replicate 6 9) (replicate 5 9)) ∙ p4-count);
 }

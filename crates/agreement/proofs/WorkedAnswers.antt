@@ -20,7 +20,7 @@ use Rattle.rules.specs.declared.BatchAnswer.{BatchAnswer}
 use Rattle.rules.specs.declared.BackwardAnswer.{BackwardAnswer}
 use Rattle.rules.specs.declared.ForwardAnswer.{ForwardAnswer}
 use Rattle.rules.specs.Trail.{Tables, trailOf, counts, freshCounts, none}
-use Rattle.rules.specs.Backward.{traceRefusals, BackwardTrace}
+use Rattle.rules.specs.Backward.{traceRefusals, BackwardTrace, backwardOf}
 use Rattle.rules.specs.Forward.{ForwardTrace}
 use Rattle.rules.specs.KeptLog.{logBytes}
 use Rattle.rules.specs.PlainList.{worked}
@@ -88,6 +88,10 @@ unfolding batch
 answer-is n a g = determined .answer [] (room n) (file 1) _ a _ g (demand2 .answer [] freshCounts (room n) (leaving .fresh (room n)) (file 1))
 
 -- Traces
+
+pub p4-count : backwardOf (batch 8 .counts) (batch 8 .tables) 2 6 (replicate 6 9) (replicate 5 9) .answer .count ≡ 4
+unfolding backward
+p4-count = ap (λ (a : BackwardAnswer). a .count) (rows .p4 .0)
 
 pub four : worked workedPlain .counts .entities ≡ 4
 four = ap (λ (c : Counts). c .entities) (sym (worked-holds .counts)) ∙ entities-are worked-holds

@@ -5,7 +5,7 @@
 use Prim.Native.Nat.{ℕ, _≤_, _<_}
 use mathlib.Core.Path.{_≡_}
 use mathlib.Core.List.{List, [], _∷_, _++_, List·Memᴰ}
-use lib.ListN.{length, getD}
+use lib.ListN.{length, getD, replicate}
 use Rattle.refusals.specs.declared.Refusal.the-variants.{EdgesFull, Unsound}
 use Rattle.refusals.specs.Refusals.{refusalNo}
 use Rattle.rows.specs.declared.Counts.{Counts}
@@ -157,3 +157,6 @@ pub record Refuted : Type 0 where
   -- the kept log without its events, or refused
   pub log-of-no-event : (b : Batched) → b .counts .edges ≡ 0 → TakenAgainClaim b → ⊥
   pub log-refused : (b : Batched) → (b .answer .refusal ≡ 0 → ⊥) → TakenAgainClaim b → ⊥
+  -- the trail that took the log in gives another count than 4 in P4
+  pub log-other-trace : (b : Batched) → (backwardOf (b .counts) (b .tables) 2 6 (replicate 6 9) (replicate 5 9) .answer .count ≡ 4 → ⊥)
+      → TakenAgainClaim b → ⊥
