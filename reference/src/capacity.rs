@@ -4,8 +4,8 @@
 pub const ENTITY_ROW: usize = 2;
 /// Numbers in a version row: entity, start, end, previous version.
 pub const VERSION_ROW: usize = 4;
-/// Numbers in an edge row: from version, to version, kind, time.
-pub const EDGE_ROW: usize = 4;
+/// Numbers in an edge row: from version, to version, kind, time, count, last.
+pub const EDGE_ROW: usize = 6;
 
 pub const MOST_ENTITIES: usize = 4_096;
 pub const MOST_VERSIONS: usize = 65_536;

@@ -21,6 +21,13 @@ pub fn check_header(file: &[u8]) -> Result<(), u32> {
     Ok(())
 }
 
+/// How many of the first `records` records of a file are events.
+pub fn events_among(file: &[u8], records: u32) -> u64 {
+    let record = |taken: u32| record_after(file, taken);
+    let is_event = |taken: &u32| matches!(record(*taken), Some(Ok(Record::Event(_))));
+    (0..records).filter(is_event).count() as u64
+}
+
 /// The record after `taken` others, or refusal 3 or 4; none at the end.
 pub fn record_after(file: &[u8], taken: u32) -> Option<Result<Record, u32>> {
     let offset = HEADER_BYTES + RECORD_BYTES * taken as usize;

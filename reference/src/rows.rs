@@ -1,9 +1,16 @@
 //! The rows of the three tables.
 
+use crate::capacity::{EDGE_ROW, ENTITY_ROW, VERSION_ROW};
 use crate::record::{Kind, Sort};
 
 /// The previous version where there is none.
 pub const NO_VERSION: u32 = 0xFFFF_FFFF;
+
+/// Writes a row of a table.
+pub fn write_row<const SIZE: usize>(table: &mut [u32], number: u32, row: [u32; SIZE]) {
+    let first = number as usize * SIZE;
+    table[first..first + SIZE].copy_from_slice(&row);
+}
 
 #[derive(Clone, Copy, Debug, PartialEq, Eq)]
 pub struct EntityRow {
@@ -27,7 +34,7 @@ impl EntityRow {
         }
     }
 
-    pub fn numbers(self) -> [u32; 2] {
+    pub fn numbers(self) -> [u32; ENTITY_ROW] {
         [self.sort, self.latest]
     }
 }
@@ -60,7 +67,7 @@ impl VersionRow {
         }
     }
 
-    pub fn numbers(self) -> [u32; 4] {
+    pub fn numbers(self) -> [u32; VERSION_ROW] {
         [self.entity, self.start, self.end, self.previous]
     }
 }
@@ -71,15 +78,22 @@ pub struct EdgeRow {
     pub to: u32,
     pub kind: u32,
     pub time: u32,
+    /// How many accepted events it stands for.
+    pub count: u32,
+    /// The time of the last of them.
+    pub last: u32,
 }
 
 impl EdgeRow {
+    /// An edge as it is kept: it stands for one event.
     pub fn new(from: u32, to: u32, kind: Kind, time: u32) -> EdgeRow {
         EdgeRow {
             from,
             to,
             kind: kind.number(),
             time,
+            count: 1,
+            last: time,
         }
     }
 
@@ -89,10 +103,14 @@ impl EdgeRow {
             to: row[1],
             kind: row[2],
             time: row[3],
+            count: row[4],
+            last: row[5],
         }
     }
 
-    pub fn numbers(self) -> [u32; 4] {
-        [self.from, self.to, self.kind, self.time]
+    pub fn numbers(self) -> [u32; EDGE_ROW] {
+        [
+            self.from, self.to, self.kind, self.time, self.count, self.last,
+        ]
     }
 }

@@ -52,6 +52,11 @@ impl<'a> TableView<'a> {
     pub fn edge_rows(self) -> impl Iterator<Item = EdgeRow> + 'a {
         (0..self.counts.edges).map(move |number| self.edge(number))
     }
+
+    /// How many events the edges stand for in all; 32 bits may not hold it.
+    pub fn counted_events(self) -> u64 {
+        self.edge_rows().map(|edge| u64::from(edge.count)).sum()
+    }
 }
 
 fn row(table: &[u32], size: usize, number: u32) -> &[u32] {

@@ -4,7 +4,7 @@ use crate::answers::{BackwardAnswer, BatchAnswer, Counts, ForwardAnswer, LogAnsw
 use crate::batch::batch;
 use crate::capacity::TableLengths;
 use crate::kept_log::kept_log;
-use crate::rows::{EdgeRow, EntityRow, VersionRow};
+use crate::rows::{write_row, EdgeRow, EntityRow, VersionRow};
 use crate::table_view::TableView;
 use crate::trace::{backward, forward};
 
@@ -57,6 +57,11 @@ impl Tables {
             versions: &self.versions,
             edges: &self.edges,
         }
+    }
+
+    /// Writes an edge row.
+    pub fn set_edge(&mut self, number: u32, row: EdgeRow) {
+        write_row(&mut self.edges, number, row.numbers());
     }
 
     pub fn batch(&mut self, file: &[u8]) -> BatchAnswer {

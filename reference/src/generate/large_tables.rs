@@ -1,5 +1,6 @@
 //! Sound tables of any size that no file gave.
 
+use crate::generate::edge_counts::stand_for;
 use crate::random::Random;
 use crate::record::{Kind, Sort};
 use crate::rows::{EdgeRow, EntityRow, VersionRow, NO_VERSION};
@@ -11,11 +12,13 @@ use crate::tables::Tables;
 pub fn large_tables(random: &mut Random, entities: u32, versions: u32, edges: u32) -> Tables {
     let version_rows = version_rows(random, entities, versions);
     let entity_rows = entity_rows(random, entities, &version_rows);
-    let edge_rows = edge_rows(random, &version_rows, edges);
+    let mut edge_rows = edge_rows(random, &version_rows, edges);
     let starts = version_rows.iter().map(|row| row.end);
     let times = edge_rows.iter().map(|row| row.time);
     let last = starts.chain(times).max().unwrap_or(0);
-    Tables::of_rows(&entity_rows, &version_rows, &edge_rows, edges, last)
+    let accepted = edges + random.between(0, 2 * edges);
+    stand_for(random, &mut edge_rows, accepted, last);
+    Tables::of_rows(&entity_rows, &version_rows, &edge_rows, accepted, last)
 }
 
 /// A version of each entity, then versions of any.
@@ -89,12 +92,7 @@ fn edge_rows(random: &mut Random, versions: &[VersionRow], edges: u32) -> Vec<Ed
         let to = random.below(versions.len());
         if let Some(kind) = kind_between(random, versions[from].entity, versions[to].entity) {
             time += random.between(1, 3);
-            rows.push(EdgeRow {
-                from: from as u32,
-                to: to as u32,
-                kind: kind.number(),
-                time,
-            });
+            rows.push(EdgeRow::new(from as u32, to as u32, kind, time));
         }
     }
     rows
@@ -128,12 +126,7 @@ pub fn tables_of_late_first_forks(count: u32) -> Tables {
         })
         .collect();
     let edges: Vec<EdgeRow> = (1..count)
-        .map(|time| EdgeRow {
-            from: count - time - 1,
-            to: count - time,
-            kind: Kind::Fork.number(),
-            time,
-        })
+        .map(|time| EdgeRow::new(count - time - 1, count - time, Kind::Fork, time))
         .collect();
     let count = edges.len() as u32;
     Tables::of_rows(&entities, &versions, &edges, count, count)

@@ -1,8 +1,10 @@
 //! Event files, tables and calls to try a trail on. All come from a
 //! [`Random`](crate::Random), so the same seed gives the same ones.
 
+pub mod batch_base;
 pub mod batch_faults;
 pub mod calls;
+pub mod edge_counts;
 pub mod files;
 pub mod full_tables;
 pub mod grown_tables;
@@ -13,10 +15,13 @@ pub mod records;
 pub mod refused_batches;
 pub mod shapes;
 pub mod sound_tables;
+pub mod unsound_counts;
+pub mod unsound_edges;
 pub mod unsound_tables;
 
 pub use batch_faults::BatchFault;
 pub use calls::{any_call, call_list, LentCall};
+pub use edge_counts::{count_all, raise_accepted, set_count};
 pub use files::{any_file, careless_file, cut_file, damaged_file, event_file};
 pub use full_tables::{tables_with_edges, tables_with_entities, tables_with_versions};
 pub use grown_tables::grown_tables;

@@ -1,8 +1,10 @@
 //! Records that a trail takes in, row capacity aside.
 
 use crate::full_list::FullList;
+use crate::kept_log::event_of;
 use crate::random::Random;
 use crate::record::{Declaration, Event, Kind, Record, Sort};
+use crate::sound::is_sound;
 use crate::tables::Tables;
 
 /// Few entities, so that events repeat.
@@ -21,14 +23,21 @@ impl RecordSource {
         RecordSource::default()
     }
 
-    /// Goes on from sound tables.
+    /// Goes on from tables whose entities fit; the events to repeat are those
+    /// of the edges, if the tables are sound.
     pub fn after_tables(tables: &Tables) -> RecordSource {
-        let rows = tables.view().entity_rows();
-        let sorts = rows.filter_map(|row| Sort::from_number(row.sort));
+        let view = tables.view();
+        let sorts = view.entity_rows();
+        let sorts = sorts.filter_map(|row| Sort::from_number(row.sort));
+        let events = if is_sound(view) {
+            view.edge_rows().map(|edge| event_of(view, edge)).collect()
+        } else {
+            Vec::new()
+        };
         RecordSource {
             sorts: sorts.collect(),
             last: tables.counts.last,
-            events: Vec::new(),
+            events,
         }
     }
 

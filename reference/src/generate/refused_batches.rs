@@ -1,14 +1,11 @@
 //! Batches refused with a number known beforehand.
 
-use crate::capacity::{TableLengths, MOST_ACCEPTED};
 use crate::file::{HEADER, HEADER_BYTES};
 use crate::file_builder::FileBuilder;
+use crate::generate::batch_base::Base;
 use crate::generate::batch_faults::BatchFault;
-use crate::generate::grown_tables::grown_tables;
-use crate::generate::lengths::{lend_anew, roomy_lengths};
-use crate::generate::records::RecordSource;
 use crate::random::Random;
-use crate::record::{encode, Event, Kind, Record, Sort, RECORD_BYTES};
+use crate::record::{encode, Event, Kind, Record, RECORD_BYTES};
 use crate::tables::Tables;
 
 /// A batch and the answer it gets.
@@ -23,7 +20,7 @@ pub struct RefusedBatch {
 /// A batch refused for this fault: records that are taken in, then the one at
 /// fault, then others never reached.
 pub fn refused_batch(random: &mut Random, fault: BatchFault) -> RefusedBatch {
-    let base = Base::new(random);
+    let base = Base::new(random, fault);
     let file = FileBuilder::new().records(&base.records);
     let file = file.raw(&bytes_at_fault(random, &base, fault));
     let is_header_fault = fault.refusal() <= 2;
@@ -37,98 +34,6 @@ pub fn refused_batch(random: &mut Random, fault: BatchFault) -> RefusedBatch {
             base.records.len() as u32
         },
     }
-}
-
-/// A grown trail and records it takes in. After them `object`, `subject` and
-/// `written` are the last entities, and the last event is the write from
-/// `subject` to `written`, the only event of the three.
-struct Base {
-    tables: Tables,
-    records: Vec<Record>,
-    after: Tables,
-    object: u16,
-    subject: u16,
-    written: u16,
-}
-
-impl Base {
-    fn new(random: &mut Random) -> Base {
-        let count = random.below(30);
-        let grown = grown_tables(random, count);
-        let tables = lend_anew(random, &grown, roomy_lengths(grown.counts));
-        let mut source = RecordSource::after_tables(&tables);
-        let count = random.below(6);
-        let mut records = source.records(random, count);
-        for sort in [Sort::Object, Sort::Subject, Sort::Object] {
-            records.push(source.declaration_of(sort));
-        }
-        let written = source.sorts.len() as u16 - 1;
-        let (object, subject) = (written - 2, written - 1);
-        let write = source.event_of(random, Kind::Write, subject, written);
-        records.push(Record::Event(write));
-        Base {
-            after: taken_in(&tables, &records),
-            tables,
-            records,
-            object,
-            subject,
-            written,
-        }
-    }
-
-    /// The tables before the file, with no row left after its good records
-    /// where the fault asks for that.
-    fn tables_for(&self, random: &mut Random, fault: BatchFault) -> Tables {
-        let mut lengths = roomy_lengths(self.after.counts);
-        let full = full_lengths(&self.after);
-        if fault.fills_entities() {
-            lengths.entities = full.entities + random.below(2);
-        }
-        if fault.fills_versions() {
-            lengths.versions = full.versions + random.below(4);
-        }
-        if fault.fills_edges() {
-            lengths.edges = full.edges + random.below(4);
-        }
-        let mut tables = lend_anew(random, &self.tables, lengths);
-        if fault.fills_accepted() {
-            let added = self.after.counts.accepted - self.tables.counts.accepted;
-            tables.counts.accepted = MOST_ACCEPTED - added;
-        }
-        tables
-    }
-
-    /// An event at a time above the last.
-    fn event(&self, kind: Kind, source: u16, target: u16) -> Event {
-        Event {
-            kind,
-            source,
-            target,
-            time: self.after.counts.last + 1,
-        }
-    }
-
-    /// The next number to declare.
-    fn next(&self) -> u16 {
-        self.written + 1
-    }
-}
-
-fn taken_in(tables: &Tables, records: &[Record]) -> Tables {
-    let mut after = tables.clone();
-    let answer = after.batch(&FileBuilder::new().records(records).bytes());
-    assert_eq!((answer.refusal, answer.taken), (0, records.len() as u32));
-    after
-}
-
-/// Lengths that hold the rows in use and no more.
-fn full_lengths(tables: &Tables) -> TableLengths {
-    let counts = tables.counts;
-    TableLengths::of_rows(
-        counts.entities as usize,
-        counts.versions as usize,
-        counts.edges as usize,
-    )
 }
 
 /// The file with its header as the fault asks.

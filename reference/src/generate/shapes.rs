@@ -1,5 +1,6 @@
 //! Shapes of sound tables that grown tables never have.
 
+use crate::rows::EdgeRow;
 use crate::table_view::TableView;
 use crate::trace::chain;
 
@@ -16,18 +17,28 @@ pub enum Shape {
     TwoVersionsAfterOne,
     /// An edge that enters a version before that version starts.
     EdgeEntersBeforeStart,
-    /// No entity, yet accepted events.
-    AcceptedWithoutEntities,
+    /// A last time without an accepted event.
+    LastWithoutEvents,
+    /// An edge with a count of 1 and a last time above its time.
+    OneEventWithLaterLast,
+    /// An edge with a count above 1 and its time as the last time.
+    MoreEventsWithoutLaterLast,
+    /// An edge with a last time above the time of a newer edge that goes from
+    /// the same version to the same entity.
+    CountedAfterNewerEdge,
 }
 
 impl Shape {
-    pub const ALL: [Shape; 6] = [
+    pub const ALL: [Shape; 9] = [
         Shape::VersionNoEdgeEnters,
         Shape::VersionOffEveryChain,
         Shape::EdgeLeavesBeforeOneEnters,
         Shape::TwoVersionsAfterOne,
         Shape::EdgeEntersBeforeStart,
-        Shape::AcceptedWithoutEntities,
+        Shape::LastWithoutEvents,
+        Shape::OneEventWithLaterLast,
+        Shape::MoreEventsWithoutLaterLast,
+        Shape::CountedAfterNewerEdge,
     ];
 
     /// Whether sound tables have this shape.
@@ -38,7 +49,10 @@ impl Shape {
             Shape::EdgeLeavesBeforeOneEnters => has_edge_leaving_before_one_enters(view),
             Shape::TwoVersionsAfterOne => has_two_versions_after_one(view),
             Shape::EdgeEntersBeforeStart => has_edge_entering_before_start(view),
-            Shape::AcceptedWithoutEntities => view.counts.entities == 0 && view.counts.accepted > 0,
+            Shape::LastWithoutEvents => view.counts.accepted == 0 && view.counts.last > 0,
+            Shape::OneEventWithLaterLast => has_one_event_with_later_last(view),
+            Shape::MoreEventsWithoutLaterLast => has_more_events_without_later_last(view),
+            Shape::CountedAfterNewerEdge => has_edge_counted_after_newer_edge(view),
         }
     }
 }
@@ -77,4 +91,23 @@ fn has_two_versions_after_one(view: TableView) -> bool {
 fn has_edge_entering_before_start(view: TableView) -> bool {
     let mut edges = view.edge_rows();
     edges.any(|edge| edge.time < view.version(edge.to).start)
+}
+
+fn has_one_event_with_later_last(view: TableView) -> bool {
+    let mut edges = view.edge_rows();
+    edges.any(|edge| edge.count == 1 && edge.time < edge.last)
+}
+
+fn has_more_events_without_later_last(view: TableView) -> bool {
+    let mut edges = view.edge_rows();
+    edges.any(|edge| edge.count > 1 && edge.time == edge.last)
+}
+
+fn has_edge_counted_after_newer_edge(view: TableView) -> bool {
+    let way = |edge: EdgeRow| (edge.from, view.version(edge.to).entity);
+    let mut edges = view.edge_rows();
+    edges.any(|edge| {
+        let mut newer = view.edge_rows().filter(|newer| edge.time < newer.time);
+        newer.any(|newer| way(newer) == way(edge) && newer.time < edge.last)
+    })
 }

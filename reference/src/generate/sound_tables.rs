@@ -1,6 +1,7 @@
 //! Sound tables that no file gave.
 
 use crate::capacity::MOST_ACCEPTED;
+use crate::generate::edge_counts::stand_for;
 use crate::generate::lengths::{lend_anew, odd_lengths};
 use crate::generate::shapes::Shape;
 use crate::random::Random;
@@ -24,8 +25,9 @@ pub fn sound_tables(random: &mut Random) -> Tables {
     let sorts = sorts(random);
     let versions = version_rows(random, sorts.len(), last);
     let entities = entity_rows(random, &sorts, &versions);
-    let edges = edge_rows(random, &sorts, &versions, last);
+    let mut edges = edge_rows(random, &sorts, &versions, last);
     let accepted = accepted_count(random, edges.len());
+    stand_for(random, &mut edges, accepted, last);
     let tables = Tables::of_rows(&entities, &versions, &edges, accepted, last);
     let lengths = odd_lengths(random, tables.counts);
     lend_anew(random, &tables, lengths)
@@ -151,18 +153,14 @@ fn edge_row(
         .filter(|number| of_sort(*number, target_sort))
         .filter(|number| entity(*number) != entity(from))
         .collect();
-    Some(EdgeRow {
-        from,
-        to: random.pick(&targets)?,
-        kind: kind.number(),
-        time,
-    })
+    Some(EdgeRow::new(from, random.pick(&targets)?, kind, time))
 }
 
-/// At least the number of edges, at most 1,000,000.
+/// At least the number of edges, at most 1,000,000; 0 if there is no edge.
 fn accepted_count(random: &mut Random, edges: usize) -> u32 {
     let edges = edges as u32;
     match random.below(6) {
+        _ if edges == 0 => 0,
         0 => MOST_ACCEPTED,
         1 => MOST_ACCEPTED - random.between(0, 3),
         2 => random.between(edges, MOST_ACCEPTED),

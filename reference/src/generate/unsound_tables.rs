@@ -1,19 +1,23 @@
 //! Unsound tables, one broken clause at a time.
 
-use crate::capacity::{EDGE_ROW, ENTITY_ROW, MOST_ACCEPTED, VERSION_ROW};
+use crate::capacity::{EDGE_ROW, ENTITY_ROW, VERSION_ROW};
 use crate::generate::sound_tables::sound_tables;
+use crate::generate::unsound_counts::break_events;
+use crate::generate::unsound_edges::break_edge;
 use crate::random::Random;
-use crate::record::Kind;
 use crate::rows::NO_VERSION;
 use crate::sound::{broken_clauses, Clause};
 use crate::tables::Tables;
 
-/// Tables in which this clause does not hold and all others do.
+/// Tables in which this clause does not hold and all others do, but for one
+/// other where it follows from them.
 pub fn unsound_tables(random: &mut Random, clause: Clause) -> Tables {
+    let most = 1 + usize::from(clause.follows_from_others());
     loop {
         let mut tables = sound_tables(random);
-        let changed = break_clause(random, &mut tables, clause);
-        if changed.is_some() && broken_clauses(tables.view()) == [clause] {
+        break_clause(random, &mut tables, clause);
+        let broken = broken_clauses(tables.view());
+        if broken.contains(&clause) && broken.len() <= most {
             return tables;
         }
     }
@@ -56,15 +60,15 @@ fn change_one_number(random: &mut Random, tables: &mut Tables) {
 /// Changes the tables so that the clause may no longer hold; none if they
 /// have no row for it.
 fn break_clause(random: &mut Random, tables: &mut Tables, clause: Clause) -> Option<()> {
-    break_count(random, tables, clause)
+    break_capacities(random, tables, clause)
         .or_else(|| break_entity(random, tables, clause))
         .or_else(|| break_version(random, tables, clause))
         .or_else(|| break_previous(random, tables, clause))
-        .or_else(|| break_edge_end(random, tables, clause))
         .or_else(|| break_edge(random, tables, clause))
+        .or_else(|| break_events(random, tables, clause))
 }
 
-fn break_count(random: &mut Random, tables: &mut Tables, clause: Clause) -> Option<()> {
+fn break_capacities(random: &mut Random, tables: &mut Tables, clause: Clause) -> Option<()> {
     let counts = &mut tables.counts;
     match clause {
         Clause::EntitiesWithinCapacity => break_capacity(
@@ -81,14 +85,6 @@ fn break_count(random: &mut Random, tables: &mut Tables, clause: Clause) -> Opti
         ),
         Clause::EdgesWithinCapacity => {
             break_capacity(random, &mut counts.edges, &mut tables.edges, EDGE_ROW)
-        }
-        Clause::EdgesAtMostAccepted => {
-            counts.accepted = random.below(some_row(counts.edges)?) as u32;
-            Some(())
-        }
-        Clause::AcceptedAtMostMillion => {
-            counts.accepted = number_from(random, MOST_ACCEPTED + 1);
-            Some(())
         }
         _ => None,
     }
@@ -161,55 +157,17 @@ fn break_previous(random: &mut Random, tables: &mut Tables, clause: Clause) -> O
     Some(())
 }
 
-/// Gives an edge another version at one of its ends.
-fn break_edge_end(random: &mut Random, tables: &mut Tables, clause: Clause) -> Option<()> {
-    let first = random.below(some_row(tables.counts.edges)?) * EDGE_ROW;
-    match clause {
-        Clause::FromExists => tables.edges[first] = number_from(random, tables.counts.versions),
-        Clause::ToExists => tables.edges[first + 1] = number_from(random, tables.counts.versions),
-        Clause::SourceHasSortOfKind => tables.edges[first] = any_version(random, tables)?,
-        Clause::TargetHasSortOfKind => tables.edges[first + 1] = any_version(random, tables)?,
-        Clause::EdgeJoinsTwoEntities => {
-            tables.edges[first] = any_version(random, tables)?;
-            tables.edges[first + 1] = any_version(random, tables)?;
-            tables.edges[first + 2] = Kind::Fork.number();
-        }
-        _ => return None,
-    }
-    Some(())
-}
-
-/// Gives an edge another kind or time.
-fn break_edge(random: &mut Random, tables: &mut Tables, clause: Clause) -> Option<()> {
-    let count = some_row(tables.counts.edges)?;
-    let first = random.below(count) * EDGE_ROW;
-    match clause {
-        Clause::KindIsOneToFive if random.one_in(2) => tables.edges[first + 2] = 0,
-        Clause::KindIsOneToFive => tables.edges[first + 2] = number_from(random, 6),
-        Clause::EdgeTimeAtLeastOne => tables.edges[3] = 0,
-        Clause::EdgeTimeAtMostLast => {
-            let last_edge = (count - 1) * EDGE_ROW;
-            tables.edges[last_edge + 3] = number_from(random, tables.counts.last.checked_add(1)?)
-        }
-        Clause::EdgeTimesRise => {
-            tables.edges[first + 3] = random.between(1, tables.counts.last.max(1))
-        }
-        _ => return None,
-    }
-    Some(())
-}
-
 /// The count, if it is not 0.
 fn some_row(count: u32) -> Option<usize> {
     (count > 0).then_some(count as usize)
 }
 
-fn any_version(random: &mut Random, tables: &Tables) -> Option<u32> {
+pub fn any_version(random: &mut Random, tables: &Tables) -> Option<u32> {
     Some(random.below(some_row(tables.counts.versions)?) as u32)
 }
 
 /// A number not below `low`, mostly close to it.
-fn number_from(random: &mut Random, low: u32) -> u32 {
+pub fn number_from(random: &mut Random, low: u32) -> u32 {
     match random.below(4) {
         0 => u32::MAX,
         1 => random.between(low, u32::MAX),

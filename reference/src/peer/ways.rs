@@ -1,30 +1,35 @@
-//! Which entity each version has given to.
+//! The newest edge from each version to each entity it has given to.
 
-use std::collections::HashSet;
+use std::collections::HashMap;
 use std::hash::{BuildHasherDefault, Hasher};
 
-/// The ways of the edges: the version an edge leaves, the entity it enters.
+/// The ways of the edges, from the version an edge leaves to the entity it
+/// enters, with the newest edge of each.
 #[derive(Clone, Debug, Default)]
 pub struct Ways {
-    keys: HashSet<u32, BuildHasherDefault<KeyHasher>>,
+    edges: HashMap<u32, u32, BuildHasherDefault<KeyHasher>>,
 }
 
 impl Ways {
     pub fn reserve(&mut self, more: usize) {
-        self.keys.reserve(more);
+        self.edges.reserve(more);
     }
 
-    /// Adds a way; true if it was not there.
-    pub fn add(&mut self, from: u32, target: u32) -> bool {
-        self.keys.insert(key(from, target))
+    /// The newest edge of the way, which is this one if there is none.
+    pub fn newest_or(&mut self, from: u32, target: u32, edge: u32) -> u32 {
+        *self.edges.entry(key(from, target)).or_insert(edge)
+    }
+
+    pub fn set_newest(&mut self, from: u32, target: u32, edge: u32) {
+        self.edges.insert(key(from, target), edge);
     }
 
     pub fn remove(&mut self, from: u32, target: u32) {
-        self.keys.remove(&key(from, target));
+        self.edges.remove(&key(from, target));
     }
 
     pub fn clear(&mut self) {
-        self.keys.clear();
+        self.edges.clear();
     }
 }
 
@@ -34,7 +39,7 @@ fn key(from: u32, target: u32) -> u32 {
 }
 
 /// Keys come from the trail itself, so one multiplication is hash enough. The
-/// set takes its place from the low bits and its tag from the high ones.
+/// map takes its place from the low bits and its tag from the high ones.
 #[derive(Clone, Copy, Debug, Default)]
 struct KeyHasher {
     hash: u64,

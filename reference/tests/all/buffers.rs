@@ -1,5 +1,6 @@
 //! What a call may write and what it leaves as it was.
 
+use reference::capacity::{EDGE_ROW, ENTITY_ROW, VERSION_ROW};
 use reference::generate::{
     any_call, any_lengths, grown_tables, lend_anew, sound_tables, unsound_tables,
 };
@@ -86,9 +87,9 @@ fn rows_past_the_counts_are_left() {
     for (before, _, after, _, answer) in calls(33) {
         if matches!(answer, Answer::Batch(_)) && answer.refusal() != 16 {
             let counts = after.counts;
-            let entities = counts.entities as usize * 2;
-            let versions = counts.versions as usize * 4;
-            let edges = counts.edges as usize * 4;
+            let entities = counts.entities as usize * ENTITY_ROW;
+            let versions = counts.versions as usize * VERSION_ROW;
+            let edges = counts.edges as usize * EDGE_ROW;
             assert_eq!(before.entities[entities..], after.entities[entities..]);
             assert_eq!(before.versions[versions..], after.versions[versions..]);
             assert_eq!(before.edges[edges..], after.edges[edges..]);
@@ -97,7 +98,8 @@ fn rows_past_the_counts_are_left() {
 }
 
 #[test]
-fn rows_in_use_change_only_in_latest_and_end() {
+fn rows_in_use_change_only_in_latest_end_count_and_last() {
+    let mut counted = 0;
     for (before, _, after, _, answer) in calls(34) {
         if matches!(answer, Answer::Batch(_)) && answer.refusal() != 16 {
             let (old, new) = (before.view(), after.view());
@@ -111,10 +113,16 @@ fn rows_in_use_change_only_in_latest_and_end() {
                 assert_eq!(old, new);
             }
             for number in 0..before.counts.edges {
-                assert_eq!(old.edge(number), new.edge(number));
+                let (old, mut new) = (old.edge(number), new.edge(number));
+                assert!(old.count <= new.count && old.last <= new.last);
+                assert_eq!(old.count < new.count, before.counts.last < new.last);
+                counted += new.count - old.count;
+                (new.count, new.last) = (old.count, old.last);
+                assert_eq!(old, new);
             }
         }
     }
+    assert!(counted > 100, "{counted}");
 }
 
 #[test]

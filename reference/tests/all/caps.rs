@@ -1,6 +1,8 @@
 //! The caps on rows, in tables longer than they allow.
 
-use reference::generate::{tables_with_edges, tables_with_entities, tables_with_versions};
+use reference::generate::{
+    count_all, tables_with_edges, tables_with_entities, tables_with_versions,
+};
 use reference::sound::{broken_clauses, Clause};
 use reference::{Capacity, FileBuilder, TableLengths};
 
@@ -15,16 +17,16 @@ fn capacity_is_whole_rows_up_to_the_caps() {
         (capacity.entities, capacity.versions, capacity.edges)
     };
     assert_eq!(capacity(0, 0, 0), (0, 0, 0));
-    assert_eq!(capacity(1, 3, 3), (0, 0, 0));
-    assert_eq!(capacity(2, 4, 4), (1, 1, 1));
-    assert_eq!(capacity(5, 11, 15), (2, 2, 3));
+    assert_eq!(capacity(1, 3, 5), (0, 0, 0));
+    assert_eq!(capacity(2, 4, 6), (1, 1, 1));
+    assert_eq!(capacity(5, 11, 23), (2, 2, 3));
     let at_caps = (4_096, 65_536, 262_144);
     assert_eq!(
-        capacity(8_191, 262_143, 1_048_575),
+        capacity(8_191, 262_143, 1_572_863),
         (4_095, 65_535, 262_143)
     );
-    assert_eq!(capacity(8_192, 262_144, 1_048_576), at_caps);
-    assert_eq!(capacity(8_194, 262_148, 1_048_580), at_caps);
+    assert_eq!(capacity(8_192, 262_144, 1_572_864), at_caps);
+    assert_eq!(capacity(8_194, 262_148, 1_572_870), at_caps);
     assert_eq!(capacity(1 << 20, 1 << 21, 1 << 22), at_caps);
 }
 
@@ -68,6 +70,8 @@ fn edge_rows_end_at_262144() {
     let answer = tables.batch(&file);
     assert_eq!((answer.refusal, answer.taken), (12, 2));
     assert_eq!(tables.counts.edges, 262_144);
+    let newest = tables.view().edge(262_143);
+    assert_eq!(newest.numbers(), [2, 0, 1, 300_000, 2, 300_001]);
 }
 
 #[test]
@@ -98,4 +102,14 @@ fn kept_log_at_the_caps() {
     assert_eq!((answer.refusal, answer.length as usize), (0, length));
     assert_eq!(out[length - 12..], [1, 0, 1, 0, 0, 0, 0, 0, 0, 0, 4, 0, 7]);
     assert_eq!(tables.kept_log(&mut out[..length - 1]).refusal, 15);
+}
+
+#[test]
+fn counts_of_all_edges_are_summed_past_32_bits() {
+    let mut tables = tables_with_edges(262_144);
+    assert_eq!(tables.view().counted_events(), 262_144);
+    count_all(&mut tables, 16_385);
+    assert_eq!(tables.view().counted_events(), (1 << 32) + 262_144);
+    let broken = broken_clauses(tables.view());
+    assert_eq!(broken, [Clause::EdgeCountsSumToAccepted]);
 }

@@ -1,5 +1,6 @@
 //! What several tests use.
 
+use reference::sound::{broken_clauses, Clause};
 use reference::{worked_file, BackwardAnswer, Event, ForwardAnswer, TableLengths, Tables};
 use std::collections::BTreeSet;
 
@@ -11,6 +12,13 @@ pub fn fresh(rows: usize) -> Tables {
 /// The tables of the worked trail.
 pub fn worked_tables() -> Tables {
     grown(&worked_file())
+}
+
+/// The clauses broken by a change of the worked tables.
+pub fn broken_by(change: impl Fn(&mut Tables)) -> Vec<Clause> {
+    let mut tables = worked_tables();
+    change(&mut tables);
+    broken_clauses(tables.view())
 }
 
 /// The tables after a file taken in whole.

@@ -76,6 +76,24 @@ fn sound_tables_are_sound() {
 }
 
 #[test]
+fn sound_tables_have_counts_of_all_sizes() {
+    let mut random = Random::new(46);
+    let (mut none, mut ones, mut on_one_edge, mut large) = (0, 0, 0, 0);
+    for _ in 0..2_000 {
+        let tables = sound_tables(&mut random);
+        let counts: Vec<u32> = tables.view().edge_rows().map(|edge| edge.count).collect();
+        let above_one = counts.iter().filter(|count| **count > 1).count();
+        none += u32::from(counts.is_empty() && tables.counts.accepted == 0);
+        ones += u32::from(!counts.is_empty() && above_one == 0);
+        on_one_edge += u32::from(counts.len() > 1 && above_one == 1);
+        large += u32::from(counts.iter().any(|count| *count > 100_000));
+    }
+    for seen in [none, ones, on_one_edge, large] {
+        assert!(seen > 100, "{seen}");
+    }
+}
+
+#[test]
 fn grown_tables_have_none_of_the_shapes() {
     let mut random = Random::new(54);
     for _ in 0..100 {

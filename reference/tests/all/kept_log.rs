@@ -2,7 +2,8 @@
 
 use crate::common::{backward, forward, fresh, log_of, times};
 use reference::generate::{grown_tables, sound_tables};
-use reference::{Random, Tables};
+use reference::rows::{EdgeRow, EntityRow, VersionRow};
+use reference::{Kind, Random, Sort, Tables};
 
 fn taken_in_again(tables: &Tables) -> Tables {
     let mut again = fresh(200);
@@ -24,6 +25,36 @@ fn same_entities_and_kept_events() {
         assert_eq!(again.counts.accepted, tables.counts.edges);
         assert_eq!(log_of(&again), log_of(&tables));
     }
+}
+
+#[test]
+fn each_edge_of_a_grown_trail_stands_for_one_event_again() {
+    let mut random = Random::new(13);
+    let mut dropped = 0;
+    for _ in 0..200 {
+        let tables = grown_tables(&mut random, 60);
+        dropped += tables.counts.accepted - tables.counts.edges;
+        let again = taken_in_again(&tables);
+        for (edge, old) in again.view().edge_rows().zip(tables.view().edge_rows()) {
+            assert_eq!((edge.kind, edge.time), (old.kind, old.time));
+            assert_eq!((edge.count, edge.last), (1, edge.time));
+        }
+    }
+    assert!(dropped > 1_000, "{dropped}");
+}
+
+/// The load would have been dropped.
+#[test]
+fn an_edge_of_tables_nobody_grew_may_stand_for_more() {
+    let [object, subject] = [Sort::Object, Sort::Subject];
+    let entities = [EntityRow::first(0, object), EntityRow::first(1, subject)];
+    let versions = [VersionRow::first(0), VersionRow::first(1)];
+    let kinds = [(Kind::Execve, 1), (Kind::Load, 2)];
+    let edges = kinds.map(|(kind, time)| EdgeRow::new(0, 1, kind, time));
+    let tables = Tables::of_rows(&entities, &versions, &edges, 2, 2);
+    let again = taken_in_again(&tables);
+    assert_eq!(again.counts.edges, 1);
+    assert_eq!(again.view().edge(0).numbers(), [0, 1, 5, 1, 2, 2]);
 }
 
 #[test]

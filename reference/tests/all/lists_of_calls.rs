@@ -2,16 +2,20 @@
 
 use crate::common::{backward, forward, times_around};
 use reference::causal::reached_from;
+use reference::file::events_among;
+use reference::full_list::StandsFor;
 use reference::generate::{call_list, lend_anew, LentCall};
 use reference::sound::is_sound;
 use reference::{Answer, Call, Capacity, Counts, FullList, Random, TableLengths, Tables};
 
 const LISTS: u64 = 30;
 
-/// The tables and the full list after the same calls.
+/// The tables and the full list after the same calls, and the events that
+/// these took in, counted from their files.
 struct Both {
     tables: Tables,
     list: FullList,
+    events: u64,
 }
 
 impl Both {
@@ -19,6 +23,7 @@ impl Both {
         Both {
             tables: Tables::fresh(TableLengths::of_rows(0, 0, 0)),
             list: FullList::new(),
+            events: 0,
         }
     }
 
@@ -33,7 +38,20 @@ impl Both {
             assert_eq!(written, marks);
         }
         assert_eq!(self.tables.counts, self.list.counts());
+        if let (Call::Batch { file }, Answer::Batch(answer)) = (&lent.call, answer) {
+            self.events += events_among(file, answer.taken);
+        }
+        self.assert_counts_agree();
         answer
+    }
+
+    /// Each edge stands for the events that the full list says, and all edges
+    /// for all events.
+    fn assert_counts_agree(&self) {
+        let view = self.tables.view();
+        let of_edges: Vec<StandsFor> = view.edge_rows().map(StandsFor::of_edge).collect();
+        assert_eq!(of_edges, self.list.stands_for());
+        assert_eq!(view.counted_events(), self.events);
     }
 }
 
@@ -73,11 +91,13 @@ fn assert_all_traces_agree(both: &Both) {
 
 #[test]
 fn answers_and_counts_agree_after_every_call() {
-    let mut accepted = 0;
+    let (mut accepted, mut dropped) = (0, 0);
     for seed in 0..400 {
-        accepted += after_list(seed).tables.counts.accepted;
+        let counts = after_list(seed).tables.counts;
+        accepted += counts.accepted;
+        dropped += counts.accepted - counts.edges;
     }
-    assert!(accepted > 4_000, "{accepted}");
+    assert!(accepted > 4_000 && dropped > 1_000, "{accepted} {dropped}");
 }
 
 #[test]

@@ -1,8 +1,8 @@
 //! Bytes of the header and of records, written out by hand.
 
-use reference::file::{check_header, record_after};
+use reference::file::{check_header, events_among, record_after};
 use reference::record::{decode, encode};
-use reference::{Declaration, Event, FileBuilder, Kind, Random, Record, Sort};
+use reference::{worked_file, Declaration, Event, FileBuilder, Kind, Random, Record, Sort};
 
 #[test]
 fn header_bytes() {
@@ -106,4 +106,11 @@ fn records_of_a_file_in_order() {
         assert_eq!(record_after(file, 0), Some(Ok(first)));
         assert_eq!(record_after(file, 1), Some(Err(3)));
     }
+}
+
+#[test]
+fn events_among_the_first_records() {
+    let file = worked_file();
+    let events = [0, 1, 4, 5, 6, 11].map(|records| events_among(&file, records));
+    assert_eq!(events, [0, 0, 0, 1, 2, 7]);
 }

@@ -2,7 +2,8 @@
 
 use crate::common::{fresh, worked_tables};
 use reference::generate::{
-    any_call, any_lengths, lend_anew, refused_batch, sound_tables, unsound_tables, BatchFault,
+    any_call, any_lengths, lend_anew, refused_batch, set_count, sound_tables, unsound_tables,
+    BatchFault,
 };
 use reference::sound::Clause;
 use reference::{
@@ -166,10 +167,12 @@ fn refusal_of_event(kind: Kind, source_sort: Sort, target_sort: Sort) -> u32 {
 fn accepted_stops_at_a_million() {
     let mut tables = worked_tables();
     tables.counts.accepted = 999_999;
+    set_count(&mut tables, 3, 999_993);
     let file = FileBuilder::new().read(3, 1, 8).read(3, 1, 9).bytes();
     let answer = tables.batch(&file);
     assert_eq!((answer.refusal, answer.taken), (13, 1));
     assert_eq!((tables.counts.accepted, tables.counts.last), (1_000_000, 8));
+    assert_eq!(tables.view().edge(2).numbers(), [3, 4, 1, 5, 3, 8]);
     let declaration = FileBuilder::new().object(4).bytes();
     assert_eq!(tables.batch(&declaration).refusal, 0);
 }

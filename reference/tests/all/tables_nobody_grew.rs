@@ -11,6 +11,7 @@ const SUBJECT: u32 = 1;
 const READ: u32 = 1;
 const WRITE: u32 = 2;
 const FORK: u32 = 4;
+const EXECVE: u32 = 5;
 
 fn entity(sort: u32, latest: u32) -> EntityRow {
     EntityRow { sort, latest }
@@ -30,21 +31,20 @@ fn first(entity: u32) -> VersionRow {
 }
 
 fn edge(from: u32, to: u32, kind: u32, time: u32) -> EdgeRow {
-    EdgeRow {
-        from,
-        to,
-        kind,
-        time,
-    }
+    counted(from, to, kind, time, 1, time)
+}
+
+fn counted(from: u32, to: u32, kind: u32, time: u32, count: u32, last: u32) -> EdgeRow {
+    EdgeRow::from_numbers(&[from, to, kind, time, count, last])
 }
 
 /// Sound tables with 9 as the last time and three rows left in each table.
 fn tables(entities: &[EntityRow], versions: &[VersionRow], edges: &[EdgeRow]) -> Tables {
-    let accepted = edges.len() as u32;
+    let accepted = edges.iter().map(|edge| edge.count).sum();
     let mut tables = Tables::of_rows(entities, versions, edges, accepted, 9);
     tables.entities.extend([8; 6]);
     tables.versions.extend([8; 12]);
-    tables.edges.extend([8; 12]);
+    tables.edges.extend([8; 18]);
     assert!(is_sound(tables.view()));
     tables
 }
@@ -149,8 +149,15 @@ fn repeat_by_an_edge_to_a_version_off_the_chain() {
     let answer = tables.batch(&FileBuilder::new().write(1, 0, 10).bytes());
     assert_eq!((answer.refusal, answer.taken), (0, 1));
     assert_eq!((tables.counts.accepted, tables.counts.last), (3, 10));
+    assert_eq!(tables.view().edge(1), counted(5, 2, WRITE, 7, 2, 10));
+    assert_only_edge_changed(tables, &before, 1);
+}
+
+/// Nothing but the counts record and this edge differs.
+fn assert_only_edge_changed(mut tables: Tables, before: &Tables, number: u32) {
     tables.counts = before.counts;
-    assert_eq!(tables, before);
+    tables.set_edge(number, before.view().edge(number));
+    assert_eq!(tables, *before);
 }
 
 #[test]
@@ -183,13 +190,61 @@ fn a_repeat_by_an_edge_of_another_kind() {
     let mut tables = tables(
         &[entity(OBJECT, 0), entity(SUBJECT, 1)],
         &[first(0), first(1)],
-        &[edge(0, 1, 5, 2)],
+        &[edge(0, 1, EXECVE, 2)],
     );
     let file = FileBuilder::new().load(0, 1, 10).read(0, 1, 11).bytes();
     assert_eq!(tables.batch(&file).refusal, 0);
     assert_eq!((tables.counts.edges, tables.counts.accepted), (1, 3));
+    assert_eq!(tables.view().edge(0), counted(0, 1, EXECVE, 2, 3, 11));
     let file = FileBuilder::new().execve(0, 1, 12).execve(0, 1, 13).bytes();
     assert_eq!(tables.batch(&file).refusal, 0);
     assert_eq!((tables.counts.edges, tables.counts.accepted), (3, 5));
+    assert_eq!(tables.view().edge(0), counted(0, 1, EXECVE, 2, 3, 11));
+    assert_eq!(tables.view().edge(2), edge(0, 1, EXECVE, 13));
     assert_eq!(tables.view().version(1), version(1, 0, 13, NO_VERSION));
+}
+
+/// Object 0 has versions 0 and 1, its latest; subject 1 versions 2 and 3;
+/// subject 2 version 4. Three edges go from version 1 to subject 1, the newest
+/// of them to the older version; newer still are one from version 0 to
+/// subject 1 and one from version 1 to subject 2.
+fn several_edges_to_repeat() -> Tables {
+    tables(
+        &[entity(OBJECT, 1), entity(SUBJECT, 3), entity(SUBJECT, 4)],
+        &[
+            first(0),
+            version(0, 1, 1, 0),
+            first(1),
+            version(1, 2, 2, 2),
+            first(2),
+        ],
+        &[
+            counted(1, 3, READ, 2, 4, 9),
+            counted(1, 3, EXECVE, 3, 1, 3),
+            counted(1, 2, EXECVE, 4, 2, 5),
+            counted(0, 3, READ, 6, 7, 8),
+            counted(1, 4, READ, 8, 1, 9),
+        ],
+    )
+}
+
+#[test]
+fn the_newest_edge_that_makes_it_a_repeat_counts_it() {
+    let before = several_edges_to_repeat();
+    let mut tables = before.clone();
+    let file = FileBuilder::new().load(0, 1, 11).read(0, 1, 13).bytes();
+    assert_eq!(tables.batch(&file).refusal, 0);
+    assert_eq!((tables.counts.accepted, tables.counts.last), (17, 13));
+    assert_eq!(tables.view().edge(2), counted(1, 2, EXECVE, 4, 4, 13));
+    assert_only_edge_changed(tables, &before, 2);
+}
+
+#[test]
+fn an_edge_kept_since_is_the_newest() {
+    let mut tables = several_edges_to_repeat();
+    let file = FileBuilder::new().execve(0, 1, 11).read(0, 1, 13).bytes();
+    assert_eq!(tables.batch(&file).refusal, 0);
+    let edges = [2, 5].map(|number| tables.view().edge(number));
+    let kept = counted(1, 3, EXECVE, 11, 2, 13);
+    assert_eq!(edges, [counted(1, 2, EXECVE, 4, 2, 5), kept]);
 }

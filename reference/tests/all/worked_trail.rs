@@ -1,6 +1,7 @@
 //! The cases of the worked trail, over tables and over the full list.
 
 use crate::common::{backward, forward, fresh, log_of, worked_tables};
+use reference::full_list::StandsFor;
 use reference::rows::NO_VERSION;
 use reference::{
     worked_declarations, worked_file, BackwardAnswer, BatchAnswer, Capacity, Counts, FileBuilder,
@@ -25,7 +26,12 @@ const VERSIONS: [[u32; 4]; 5] = [
     [1, 5, 5, 1],
 ];
 
-const EDGES: [[u32; 4]; 4] = [[0, 1, 1, 1], [1, 2, 2, 2], [3, 4, 1, 5], [4, 2, 2, 6]];
+const EDGES: [[u32; 6]; 4] = [
+    [0, 1, 1, 1, 2, 3],
+    [1, 2, 2, 2, 2, 4],
+    [3, 4, 1, 5, 2, 7],
+    [4, 2, 2, 6, 1, 6],
+];
 
 fn worked_list() -> FullList {
     let mut list = FullList::new();
@@ -71,8 +77,13 @@ fn p1_rows() {
     assert_eq!(tables.counts, COUNTS);
     assert_eq!(tables.entities[..8], ENTITIES);
     assert_eq!(tables.versions[..20], VERSIONS.concat());
-    assert_eq!(tables.edges[..16], EDGES.concat());
+    assert_eq!(tables.edges[..24], EDGES.concat());
     assert_eq!(worked_list().counts(), COUNTS);
+    let stands_for = EDGES.map(|edge| StandsFor {
+        count: edge[4],
+        last: edge[5],
+    });
+    assert_eq!(worked_list().stands_for(), stands_for);
 }
 
 #[test]

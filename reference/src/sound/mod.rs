@@ -4,66 +4,9 @@ use crate::capacity::MOST_ACCEPTED;
 use crate::record::{Kind, Sort};
 use crate::rows::{EdgeRow, VersionRow, NO_VERSION};
 use crate::table_view::TableView;
+pub use clause::Clause;
 
-/// What sound tables must hold. Each clause is named by what holds.
-#[derive(Clone, Copy, Debug, PartialEq, Eq)]
-pub enum Clause {
-    EntitiesWithinCapacity,
-    VersionsWithinCapacity,
-    EdgesWithinCapacity,
-    EdgesAtMostAccepted,
-    AcceptedAtMostMillion,
-    SortIsZeroOrOne,
-    LatestExists,
-    LatestIsOfThatEntity,
-    VersionEntityExists,
-    StartAtMostEnd,
-    EndAtMostLast,
-    NoPreviousWhereStartIsZero,
-    PreviousWhereStartIsNotZero,
-    PreviousHasLowerNumber,
-    PreviousIsOfSameEntity,
-    PreviousHasLowerStart,
-    FromExists,
-    ToExists,
-    EdgeJoinsTwoEntities,
-    KindIsOneToFive,
-    SourceHasSortOfKind,
-    TargetHasSortOfKind,
-    EdgeTimeAtLeastOne,
-    EdgeTimeAtMostLast,
-    EdgeTimesRise,
-}
-
-impl Clause {
-    pub const ALL: [Clause; 25] = [
-        Clause::EntitiesWithinCapacity,
-        Clause::VersionsWithinCapacity,
-        Clause::EdgesWithinCapacity,
-        Clause::EdgesAtMostAccepted,
-        Clause::AcceptedAtMostMillion,
-        Clause::SortIsZeroOrOne,
-        Clause::LatestExists,
-        Clause::LatestIsOfThatEntity,
-        Clause::VersionEntityExists,
-        Clause::StartAtMostEnd,
-        Clause::EndAtMostLast,
-        Clause::NoPreviousWhereStartIsZero,
-        Clause::PreviousWhereStartIsNotZero,
-        Clause::PreviousHasLowerNumber,
-        Clause::PreviousIsOfSameEntity,
-        Clause::PreviousHasLowerStart,
-        Clause::FromExists,
-        Clause::ToExists,
-        Clause::EdgeJoinsTwoEntities,
-        Clause::KindIsOneToFive,
-        Clause::SourceHasSortOfKind,
-        Clause::TargetHasSortOfKind,
-        Clause::EdgeTimeAtLeastOne,
-        Clause::EdgeTimeAtMostLast,
-        Clause::EdgeTimesRise,
-    ];
-}
+mod clause;
 
 /// Whether the tables are sound.
 pub fn is_sound(view: TableView) -> bool {
@@ -115,10 +58,14 @@ fn holds(clause: Clause, view: TableView) -> bool {
         | Clause::SourceHasSortOfKind
         | Clause::TargetHasSortOfKind
         | Clause::EdgeTimeAtLeastOne
-        | Clause::EdgeTimeAtMostLast => {
+        | Clause::EdgeTimeAtMostLast
+        | Clause::EdgeCountAtLeastOne
+        | Clause::EdgeLastAtLeastTime
+        | Clause::EdgeLastAtMostLast => {
             (0..view.counts.edges).all(|number| edge_holds(clause, view, number))
         }
         Clause::EdgeTimesRise => edge_times_rise(view),
+        Clause::EdgeCountsSumToAccepted => edge_counts_sum_to_accepted(view),
     }
 }
 
@@ -197,6 +144,9 @@ fn edge_holds(clause: Clause, view: TableView, number: u32) -> bool {
         },
         Clause::EdgeTimeAtLeastOne => 1 <= edge.time,
         Clause::EdgeTimeAtMostLast => edge.time <= view.counts.last,
+        Clause::EdgeCountAtLeastOne => 1 <= edge.count,
+        Clause::EdgeLastAtLeastTime => edge.time <= edge.last,
+        Clause::EdgeLastAtMostLast => edge.last <= view.counts.last,
         _ => true,
     }
 }
@@ -220,6 +170,10 @@ fn has_sort(view: TableView, number: u32, sort: Sort) -> bool {
 
 fn edge_times_rise(view: TableView) -> bool {
     (1..view.counts.edges).all(|number| view.edge(number - 1).time < view.edge(number).time)
+}
+
+fn edge_counts_sum_to_accepted(view: TableView) -> bool {
+    view.counted_events() == u64::from(view.counts.accepted)
 }
 
 /// The version row, if it exists.

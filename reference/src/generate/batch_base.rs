@@ -1,0 +1,115 @@
+//! What comes before the record at which a batch is refused.
+
+use crate::capacity::{TableLengths, EDGE_ROW, ENTITY_ROW, MOST_ACCEPTED, VERSION_ROW};
+use crate::file_builder::FileBuilder;
+use crate::generate::batch_faults::BatchFault;
+use crate::generate::edge_counts::raise_accepted;
+use crate::generate::grown_tables::grown_tables;
+use crate::generate::lengths::{lend_anew, roomy_lengths};
+use crate::generate::records::RecordSource;
+use crate::random::Random;
+use crate::record::{Event, Kind, Record, Sort};
+use crate::tables::Tables;
+
+/// A grown trail and records it takes in. After them `object`, `subject` and
+/// `written` are the last entities, and the last event is the write from
+/// `subject` to `written`, the only event of the three.
+pub struct Base {
+    pub tables: Tables,
+    pub records: Vec<Record>,
+    pub after: Tables,
+    pub object: u16,
+    pub subject: u16,
+    pub written: u16,
+}
+
+impl Base {
+    pub fn new(random: &mut Random, fault: BatchFault) -> Base {
+        let grown = grown_for(random, fault);
+        let tables = lend_anew(random, &grown, roomy_lengths(grown.counts));
+        let mut source = RecordSource::after_tables(&tables);
+        let count = random.below(6);
+        let mut records = source.records(random, count);
+        for sort in [Sort::Object, Sort::Subject, Sort::Object] {
+            records.push(source.declaration_of(sort));
+        }
+        let written = source.sorts.len() as u16 - 1;
+        let (object, subject) = (written - 2, written - 1);
+        let write = source.event_of(random, Kind::Write, subject, written);
+        records.push(Record::Event(write));
+        Base {
+            after: taken_in(&tables, &records),
+            tables,
+            records,
+            object,
+            subject,
+            written,
+        }
+    }
+
+    /// The tables before the file, with no row left after its good records
+    /// where the fault asks for that.
+    pub fn tables_for(&self, random: &mut Random, fault: BatchFault) -> Tables {
+        let mut lengths = roomy_lengths(self.after.counts);
+        let full = full_lengths(&self.after);
+        if fault.fills_entities() {
+            lengths.entities = full.entities + random.below(ENTITY_ROW);
+        }
+        if fault.fills_versions() {
+            lengths.versions = full.versions + random.below(VERSION_ROW);
+        }
+        if fault.fills_edges() {
+            lengths.edges = full.edges + random.below(EDGE_ROW);
+        }
+        let mut tables = lend_anew(random, &self.tables, lengths);
+        if fault.fills_accepted() {
+            let added = self.after.counts.accepted - self.tables.counts.accepted;
+            raise_accepted(random, &mut tables, MOST_ACCEPTED - added)
+                .expect("the base has an edge");
+        }
+        tables
+    }
+
+    /// An event at a time above the last.
+    pub fn event(&self, kind: Kind, source: u16, target: u16) -> Event {
+        Event {
+            kind,
+            source,
+            target,
+            time: self.after.counts.last + 1,
+        }
+    }
+
+    /// The next number to declare.
+    pub fn next(&self) -> u16 {
+        self.written + 1
+    }
+}
+
+/// A grown trail, with an edge if accepted events are to be counted at one.
+fn grown_for(random: &mut Random, fault: BatchFault) -> Tables {
+    loop {
+        let count = random.below(30);
+        let grown = grown_tables(random, count);
+        if grown.counts.edges > 0 || !fault.fills_accepted() {
+            return grown;
+        }
+    }
+}
+
+fn taken_in(tables: &Tables, records: &[Record]) -> Tables {
+    let mut after = tables.clone();
+    let answer = after.batch(&FileBuilder::new().records(records).bytes());
+    assert_eq!((answer.refusal, answer.taken), (0, records.len() as u32));
+    after
+}
+
+/// Lengths that hold the rows in use and no more.
+fn full_lengths(tables: &Tables) -> TableLengths {
+    let counts = tables.counts;
+    TableLengths::of_rows(
+        counts.entities as usize,
+        counts.versions as usize,
+        counts.edges as usize,
+    )
+}
