@@ -5,13 +5,15 @@ use reference::capacity::{
     EDGE_ROW, ENTITY_ROW, MOST_ACCEPTED, MOST_EDGES, MOST_ENTITIES, MOST_VERSIONS, VERSION_ROW,
 };
 use reference::generate::{
-    large_tables, lend_anew, long_file_event, tables_with_edges, tables_with_entities,
-    tables_with_versions,
+    count_all, large_tables, lend_anew, long_file_event, raise_accepted, set_count,
+    tables_with_edges, tables_with_entities, tables_with_versions,
 };
 use reference::{FileBuilder, Kind, Random, TableLengths, Tables};
 
 /// Rows in use that are missing to the caps.
 const MISSING: u32 = 40;
+/// As the count of all 262,144 edges it makes a sum of 2^32 and 262,144.
+const COUNT_PAST_32_BITS: u32 = 16_385;
 /// Traces on tables with all rows in use.
 const FULL_TRACES: usize = 5;
 
@@ -62,7 +64,7 @@ pub fn accepted_cap(comparison: &mut Comparison, random: &mut Random) -> Compare
         let mut tables = large_tables(random, 6, 20, 30);
         let lengths = TableLengths::of_rows(9, 40, 40);
         tables = lend_anew(random, &tables, lengths);
-        tables.counts.accepted = accepted;
+        raise_accepted(random, &mut tables, accepted).expect("there are edges");
         for kind in Kind::ALL {
             let file = events_after(random, &tables, &[kind], 3);
             comparison.batch(&mut tables.clone(), file)?;
@@ -90,7 +92,8 @@ pub fn all_full(comparison: &mut Comparison, random: &mut Random) -> Compared {
     comparison.batch(&mut tables.clone(), declaration)?;
     let events = events_after(random, &tables, &Kind::ALL, 9);
     comparison.batch(&mut tables.clone(), events)?;
-    spoilt_last_rows(comparison, random, &tables)
+    spoilt_last_rows(comparison, random, &tables)?;
+    spoilt_counts(comparison, random, &tables)
 }
 
 fn lengths_past_caps() -> TableLengths {
@@ -108,6 +111,24 @@ fn spoilt_last_rows(comparison: &mut Comparison, random: &mut Random, tables: &T
     let mut spoilt = tables.clone();
     spoilt.edges[(MOST_EDGES - 1) * EDGE_ROW + 3] = 1;
     comparison.each_call(random, &spoilt)
+}
+
+/// A wrong count in the last edge row; counts that are right if summed in 32
+/// bits; all edges and as many accepted events as there may be.
+fn spoilt_counts(comparison: &mut Comparison, random: &mut Random, tables: &Tables) -> Compared {
+    let edges = MOST_EDGES as u32;
+    let last = tables.view().edge(edges - 1).count;
+    for count in [last - 1, last + 1] {
+        let mut spoilt = tables.clone();
+        set_count(&mut spoilt, edges - 1, count);
+        comparison.each_call(random, &spoilt)?;
+    }
+    let mut tables = tables_with_edges(edges);
+    count_all(&mut tables, COUNT_PAST_32_BITS);
+    comparison.each_call(random, &tables)?;
+    let mut tables = tables_with_edges(edges);
+    raise_accepted(random, &mut tables, MOST_ACCEPTED).expect("there are edges");
+    comparison.each_call(random, &tables)
 }
 
 /// All three tables nearly full, then filled by batches.

@@ -2,6 +2,7 @@
 
 use crate::comparison::{Compared, Comparison};
 use crate::lists::ListTrail;
+use crate::round_trip::taken_in_again;
 use reference::generate::lend_anew;
 use reference::record::RECORD_BYTES;
 use reference::{Call, Declaration, Event, FileBuilder, Kind, Random, Record, Sort};
@@ -45,7 +46,7 @@ fn is_taken_in(
     let is_whole = (counts.entities + counts.accepted) as usize == records;
     if is_whole {
         trail.all_traces(comparison)?;
-        comparison.kept_logs(&trail.tables)?;
+        taken_in_again(comparison, &trail.tables, trail.tables.view().lengths())?;
     }
     Ok(is_whole)
 }
@@ -139,7 +140,7 @@ fn compare_events(
         }
     }
     trail.all_traces(comparison)?;
-    comparison.kept_logs(&trail.tables)
+    taken_in_again(comparison, &trail.tables, trail.tables.view().lengths())
 }
 
 fn declarations(sorts: [Sort; 3]) -> Vec<Record> {

@@ -1,15 +1,15 @@
 //! Every sound table of two entities, three versions and up to three edges
-//! with few values, grown or not.
+//! with few values, counts of 1 and 2 among them, grown or not.
 
 use crate::comparison::{Compared, Comparison};
+use reference::capacity::{EDGE_ROW, ENTITY_ROW, VERSION_ROW};
+use reference::generate::calls::batch_on;
 use reference::rows::{EdgeRow, EntityRow, VersionRow, NO_VERSION};
 use reference::sound::is_sound;
 use reference::{Kind, Random, Sort, Tables};
 
 const EDGES: u32 = 3;
 const LAST: u32 = 3;
-/// One in this many tables gets a batch too.
-const BATCH_ONE_IN: usize = 8;
 
 /// The rows of the entities and of the versions.
 struct Rows {
@@ -17,30 +17,45 @@ struct Rows {
     versions: [VersionRow; 3],
 }
 
+impl Rows {
+    fn with_edges(&self, edges: &[EdgeRow]) -> Tables {
+        let accepted = edges.iter().map(|edge| edge.count).sum();
+        Tables::of_rows(&self.entities, &self.versions, edges, accepted, LAST)
+    }
+}
+
+/// A batch on each table; the traces, which no count changes, once for all
+/// counts.
 pub fn every_table(comparison: &mut Comparison, random: &mut Random) -> Compared {
     for rows in every_rows() {
-        let ways = every_way(&rows);
-        for edges in every_edge_list(&ways) {
-            let tables = Tables::of_rows(&rows.entities, &rows.versions, &edges, LAST, LAST);
-            compare_table(comparison, random, &tables)?;
+        for edges in every_edge_list(&every_way(&rows)) {
+            let counted = every_count(random, &edges);
+            for edges in &counted {
+                compare_batch(comparison, random, rows.with_edges(edges))?;
+            }
+            let any = &counted[random.below(counted.len())];
+            compare_traces(comparison, &rows.with_edges(any))?;
         }
     }
     Ok(())
 }
 
-fn compare_table(comparison: &mut Comparison, random: &mut Random, tables: &Tables) -> Compared {
+fn compare_traces(comparison: &mut Comparison, tables: &Tables) -> Compared {
     for entity in 0..2 {
         for time in 0..=LAST {
             comparison.traces(tables, entity, time)?;
         }
     }
-    if random.one_in(BATCH_ONE_IN) {
-        let mut roomy = tables.clone();
-        roomy.entities.extend([1; 2]);
-        roomy.versions.extend([1; 4]);
-        roomy.edges.extend([1; 8]);
-        comparison.each_call(random, &roomy)?;
-    }
+    comparison.kept_logs(tables)
+}
+
+/// Any batch, in tables with some rows more.
+fn compare_batch(comparison: &mut Comparison, random: &mut Random, mut tables: Tables) -> Compared {
+    tables.entities.extend([1; ENTITY_ROW]);
+    tables.versions.extend([1; VERSION_ROW]);
+    tables.edges.extend([1; 2 * EDGE_ROW]);
+    let batch = batch_on(random, &tables);
+    comparison.call(&tables, batch)?;
     Ok(())
 }
 
@@ -56,10 +71,7 @@ fn every_rows() -> Vec<Rows> {
             }
         }
     }
-    all.retain(|rows| {
-        let tables = Tables::of_rows(&rows.entities, &rows.versions, &[], LAST, LAST);
-        is_sound(tables.view())
-    });
+    all.retain(|rows| is_sound(rows.with_edges(&[]).view()));
     all
 }
 
@@ -99,12 +111,7 @@ fn every_way(rows: &Rows) -> Vec<EdgeRow> {
             let (source, target) = (rows.versions[from].entity, rows.versions[to].entity);
             let sorts = [source, target].map(|entity| rows.entities[entity as usize].sort);
             if let (true, Some(kind)) = (source != target, kind_of(sorts)) {
-                ways.push(EdgeRow {
-                    from: from as u32,
-                    to: to as u32,
-                    kind: kind.number(),
-                    time: 0,
-                });
+                ways.push(EdgeRow::new(from as u32, to as u32, kind, 0));
             }
         }
     }
@@ -134,4 +141,18 @@ fn every_edge_list(ways: &[EdgeRow]) -> Vec<Vec<EdgeRow>> {
         longest = longer;
     }
     all
+}
+
+/// The edges with every count of 1 and 2, each time with any last times.
+fn every_count(random: &mut Random, edges: &[EdgeRow]) -> Vec<Vec<EdgeRow>> {
+    let choices = 0..1_u32 << edges.len();
+    let mut counted = |choice: u32| {
+        let row = |(place, edge): (usize, &EdgeRow)| EdgeRow {
+            count: 1 + (choice >> place) % 2,
+            last: random.between(edge.time, LAST),
+            ..*edge
+        };
+        edges.iter().enumerate().map(row).collect()
+    };
+    choices.map(&mut counted).collect()
 }

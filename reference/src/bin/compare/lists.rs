@@ -5,7 +5,10 @@ use crate::calls::{times_of, traces, BufferLengths};
 use crate::comparison::{Compared, Comparison};
 use crate::difference::{differ, Difference};
 use crate::made::Made;
-use reference::generate::{call_list, lend_anew, LentCall};
+use crate::round_trip::taken_in_again;
+use reference::file::events_among;
+use reference::full_list::StandsFor;
+use reference::generate::{call_list, lend_anew, roomy_lengths, LentCall};
 use reference::{Answer, Call, FullList, Random, TableLengths, Tables};
 
 const LISTS: usize = 60;
@@ -21,7 +24,8 @@ pub fn lists_of_calls(comparison: &mut Comparison, random: &mut Random) -> Compa
         for call in call_list(random, CALLS) {
             trail.run(comparison, random, call)?;
         }
-        comparison.kept_logs(&trail.tables)?;
+        let lengths = roomy_lengths(trail.tables.counts);
+        taken_in_again(comparison, &trail.tables, lengths)?;
         if number % ALL_ONE_IN == 0 {
             trail.all_traces(comparison)?;
         } else {
@@ -31,10 +35,12 @@ pub fn lists_of_calls(comparison: &mut Comparison, random: &mut Random) -> Compa
     Ok(())
 }
 
-/// The tables and the full list after the same calls.
+/// The tables and the full list after the same calls, and the events that
+/// these took in, counted from their files.
 pub struct ListTrail {
     pub tables: Tables,
     pub list: FullList,
+    events: u64,
 }
 
 impl ListTrail {
@@ -42,6 +48,7 @@ impl ListTrail {
         ListTrail {
             tables: Tables::fresh(TableLengths::of_rows(0, 0, 0)),
             list: FullList::new(),
+            events: 0,
         }
     }
 
@@ -61,7 +68,8 @@ impl ListTrail {
         let made = comparison.call(&self.tables, call.clone())?;
         let capacity = self.tables.view().capacity();
         let (answer, marks) = self.list.run(capacity, call.clone());
-        let place = differ_from_list(&made, &self.list, answer, marks);
+        let place = differ_from_list(&made, &self.list, answer, marks)
+            .or_else(|| self.differ_in_events(&call, &made));
         match place {
             Some(place) => Err(Difference::new(&self.tables, &call, place)),
             None => {
@@ -69,6 +77,21 @@ impl ListTrail {
                 Ok(())
             }
         }
+    }
+
+    /// After a batch: what each edge stands for by the full list, and what
+    /// all stand for by the files.
+    fn differ_in_events(&mut self, call: &Call, made: &Made) -> Option<String> {
+        let (Call::Batch { file }, Answer::Batch(answer)) = (call, made.answer) else {
+            return None;
+        };
+        self.events += events_among(file, answer.taken);
+        let (view, stands_for) = (made.tables.view(), self.list.stands_for());
+        let of_edges: Vec<StandsFor> = view.edge_rows().map(StandsFor::of_edge).collect();
+        differ("edges, by the full list", of_edges, stands_for).or_else(|| {
+            let sum = view.counted_events();
+            differ("sum of the counts, by the files", sum, self.events)
+        })
     }
 
     /// Both traces of some entities at some times.

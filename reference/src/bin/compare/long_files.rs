@@ -1,11 +1,11 @@
 //! Long files taken into a fresh trail, up to the caps.
 
-use crate::calls::{kept_log, log_length};
 use crate::comparison::{Compared, Comparison};
+use crate::round_trip::taken_in_again;
 use reference::capacity::{MOST_ACCEPTED, MOST_EDGES, MOST_ENTITIES, MOST_VERSIONS};
 use reference::file::HEADER;
 use reference::generate::long_file;
-use reference::{Answer, Call, Kind, Random, TableLengths, Tables};
+use reference::{Kind, Random, TableLengths, Tables};
 
 const TRACES_AT_CAPS: usize = 2;
 const TRACES: usize = 8;
@@ -55,16 +55,6 @@ fn some_traces(
         let entity = random.below(tables.counts.entities as usize) as u32;
         let time = random.between(0, tables.counts.last);
         comparison.traces(tables, entity, time)?;
-    }
-    Ok(())
-}
-
-/// The kept log, and the log taken in again.
-fn taken_in_again(comparison: &mut Comparison, tables: &Tables, lengths: TableLengths) -> Compared {
-    comparison.kept_logs(tables)?;
-    let made = comparison.call(tables, kept_log(log_length(tables.counts)))?;
-    if let (Answer::KeptLog(_), Call::KeptLog { out }) = (made.answer, made.call) {
-        comparison.batch(&mut Tables::fresh(lengths), out)?;
     }
     Ok(())
 }

@@ -2,6 +2,7 @@
 
 use crate::comparison::{Compared, Comparison};
 use crate::worked_trail::worked_tables;
+use reference::capacity::{EDGE_ROW, ENTITY_ROW, VERSION_ROW};
 use reference::generate::{
     grown_tables, large_tables, sound_tables, sound_tables_of_shape, tables_of_late_first_forks,
     unsound_tables, unsound_tables_by_one_number, Shape,
@@ -105,9 +106,9 @@ fn numbers(tables: &mut Tables) -> Vec<&mut u32> {
         last,
     } = &mut tables.counts;
     let mut numbers: Vec<&mut u32> = Vec::new();
-    numbers.extend(&mut tables.entities[..*entities as usize * 2]);
-    numbers.extend(&mut tables.versions[..*versions as usize * 4]);
-    numbers.extend(&mut tables.edges[..*edges as usize * 4]);
+    numbers.extend(&mut tables.entities[..*entities as usize * ENTITY_ROW]);
+    numbers.extend(&mut tables.versions[..*versions as usize * VERSION_ROW]);
+    numbers.extend(&mut tables.edges[..*edges as usize * EDGE_ROW]);
     numbers.extend([entities, versions, edges, accepted, last]);
     numbers
 }
@@ -121,6 +122,7 @@ fn values(random: &mut Random, tables: &Tables, place: usize) -> Vec<u32> {
     values.extend([counts.entities, counts.versions, counts.edges, counts.last]);
     values.extend([number.wrapping_sub(1), number.wrapping_add(1)]);
     values.extend([1_000_000, 1_000_001, 1 << 30, (1 << 30) + 1, 1 << 31]);
+    values.push(u32::MAX / EDGE_ROW as u32 + 1);
     values.extend([u32::MAX - 1, u32::MAX, random.number()]);
     values
 }

@@ -2,6 +2,7 @@
 //! capacity, every length of its tables, all its traces.
 
 use crate::comparison::{Compared, Comparison};
+use reference::capacity::{EDGE_ROW, ENTITY_ROW, VERSION_ROW};
 use reference::generate::lend_anew;
 use reference::{worked_file, Random, TableLengths, Tables};
 
@@ -55,9 +56,9 @@ fn capacities(comparison: &mut Comparison, random: &mut Random) -> Compared {
         for versions in 0..=6 {
             for edges in 0..=5 {
                 let mut lengths = TableLengths::of_rows(entities, versions, edges);
-                lengths.entities += random.below(2);
-                lengths.versions += random.below(4);
-                lengths.edges += random.below(4);
+                lengths.entities += random.below(ENTITY_ROW);
+                lengths.versions += random.below(VERSION_ROW);
+                lengths.edges += random.below(EDGE_ROW);
                 comparison.batch(&mut fresh(random, lengths), worked_file())?;
             }
         }
