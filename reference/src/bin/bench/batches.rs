@@ -183,7 +183,7 @@ pub fn batches_on(
     state: Peer,
 ) -> Line {
     let FullTrail { tables, peer } = trail;
-    let (counts, capacity) = (tables.counts, tables.view().capacity());
+    let capacity = tables.view().capacity();
     let before = tables.clone();
     let all = |take: &mut dyn FnMut(&[u8]) -> BatchAnswer| {
         let times = files.iter().map(|file| taken_whole(timed(|| take(file))));
@@ -191,7 +191,8 @@ pub fn batches_on(
     };
     let [library, of_peer, floor] = medians([
         Box::new(|| {
-            tables.counts = counts;
+            tables.counts = before.counts;
+            tables.edges.copy_from_slice(&before.edges);
             all(&mut |file| library::batch(tables, file))
         }),
         Box::new(|| {
@@ -206,9 +207,13 @@ pub fn batches_on(
             timed(|| files.iter().map(pass).fold(0, |sum, next| sum ^ next)).1
         }),
     ]);
-    let events = tables.counts.accepted - counts.accepted;
-    tables.counts = counts;
-    assert!(*tables == before, "a repeat changes no row");
+    let events = tables.counts.accepted - before.counts.accepted;
+    let mut after = peer.clone();
+    for file in files {
+        after.batch(capacity, file);
+    }
+    assert_same_rows(tables, &after);
+    *tables = before;
     Line {
         name,
         goal,

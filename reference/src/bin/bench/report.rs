@@ -15,7 +15,7 @@ library is faster.
 
 library  is lent the tables at each call: it tests them (refusal 16), a batch
          then builds its index of edges, a trace makes its passes.
-(a)      keeps rows, a hash set of ways and lists of edges of its own from call
+(a)      keeps rows, a hash map of ways and lists of edges of its own from call
          to call; it trusts them, tests nothing and rebuilds nothing. Where it
          is made anew it takes over the lent tables at each batch, untested.
 (b)      batch: one pass that decodes the file, and on a trail with rows one
@@ -26,8 +26,8 @@ library  is lent the tables at each call: it tests them (refusal 16), a batch
          within its table.
 
 Buffers: those of both sides are allocated, and written by a round that does
-not count, before any time is taken. Each run starts from counts put back to
-what they were (the peer cleared, its memory kept). Sides run in turn.
+not count, before any time is taken. Each run starts from counts and rows put
+back to what they were (the peer cleared, its memory kept). Sides run in turn.
 ";
 
 pub fn print_heading() {
