@@ -63,13 +63,19 @@ static int marks_are(uint8_t a, uint8_t b, uint8_t c, uint8_t d)
 
 static void take_in(void)
 {
-    static const uint32_t rows[] = { 0, 1, 1, 1, 1, 2, 2, 2, 3, 4, 1, 5, 4, 2, 2, 6 };
+    static const uint32_t rows[] = {
+        0, 1, 1, 1, 2, 3,
+        1, 2, 2, 2, 2, 4,
+        3, 4, 1, 5, 2, 7,
+        4, 2, 2, 6, 1, 6,
+    };
     slt_batch_answer answer = slt_batch(&counts, TABLES, file, sizeof file);
     printf("batch refusal %u taken %u\n", answer.refusal, answer.taken);
     printf("trail %u %u %u %u %u\n", counts.entities, counts.versions, counts.edges, counts.accepted, counts.last);
     for (uint32_t k = 0; k < counts.edges; k++) {
         const uint32_t *row = edges + SLT_EDGE_WIDTH * k;
-        printf("edge %u %u %u %u\n", row[0], row[1], row[2], row[3]);
+        printf("edge %u %u %u %u count %u last %u\n",
+            row[0], row[1], row[2], row[3], row[4], row[5]);
     }
     expect("all eleven records are taken in", answer.refusal == SLT_NOT_REFUSED && answer.taken == 11);
     expect("the counts",
@@ -95,7 +101,7 @@ static void trace_forward(uint32_t entity, uint32_t time)
         answer.refusal == SLT_NOT_REFUSED && answer.count == 3 && answer.intake == 0 && marks_are(0, 1, 1, 1));
 }
 
-/* The log is taken in again, into a fresh trail, and gives the same edges. */
+/* The log is taken in again, into a fresh trail, and gives the same edges, each standing for its own event alone. */
 static void write_log(void)
 {
     slt_log_answer answer = slt_kept_log(counts, TABLES, log_bytes, LENGTH(log_bytes));
@@ -107,7 +113,11 @@ static void write_log(void)
     slt_batch_answer batch = slt_batch(&again, TABLES, log_bytes, answer.length);
     printf("kept log again refusal %u taken %u edges %u\n", batch.refusal, batch.taken, again.edges);
     expect("the kept log is taken in", batch.refusal == SLT_NOT_REFUSED && batch.taken == 8 && again.edges == counts.edges);
-    expect("its edges are those kept", memcmp(kept, edges, sizeof kept) == 0);
+    for (uint32_t k = 0; k < again.edges; k++) {
+        const uint32_t *row = edges + SLT_EDGE_WIDTH * k;
+        expect("its edges are those kept", memcmp(row, kept + SLT_EDGE_WIDTH * k, 4 * sizeof row[0]) == 0);
+        expect("each stands for one event", row[4] == 1 && row[5] == row[3]);
+    }
 }
 
 /* A refused call writes nothing. */

@@ -25,14 +25,17 @@ extern "C" {
  *
  *   entity   sort (0 object, 1 subject), latest version
  *   version  entity, start, end, previous version (SLT_NONE for none)
- *   edge     from version, to version, kind (1 read, 2 write, 3 load, 4 fork, 5 execve), time
+ *   edge     from version, to version, kind (1 read, 2 write, 3 load, 4 fork, 5 execve), time, count, last
+ *
+ * An edge stands for the event that was kept as it, at its time, and for those that repeat it: the count says how many these are,
+ * and last is the time of the last one. The counts of all edges add up to the events accepted.
  *
  * A table's capacity is its whole rows, at most SLT_MOST_.. of them; numbers past that are neither read nor written. Time is
  * in hundredths of a second since the trail began.
  */
 #define SLT_ENTITY_WIDTH 2
 #define SLT_VERSION_WIDTH 4
-#define SLT_EDGE_WIDTH 4
+#define SLT_EDGE_WIDTH 6
 
 #define SLT_MOST_ENTITIES 4096
 #define SLT_MOST_VERSIONS 65536
@@ -118,7 +121,8 @@ typedef struct slt_log_answer {
 } slt_log_answer;
 
 /*
- * Takes the records of an event file in, in order until the first one refused.
+ * Takes the records of an event file in, in order until the first one refused. A read, write or load that repeats what an edge from
+ * its source's latest version gave its target keeps no edge: it adds one to the count of the newest such edge and sets its last.
  *
  * Refused with 16, 1, 2, then at each record with 3, 4; a declaration with 6, 10, 11; an event with 5, 7, 8, 9, 13, 12, 11.
  * Refused with 16, 1 or 2 it takes nothing in and writes nothing. Refused at a record, it leaves the counts and the tables as
@@ -167,7 +171,8 @@ slt_forward_answer slt_forward(
 
 /*
  * Writes the kept log to the start of `out`: an event file with the header, all declarations by number, then all edges in
- * order as events. It has SLT_HEADER_LENGTH + SLT_RECORD_LENGTH * (entities + edges) bytes, which is the length returned.
+ * order as events. It has SLT_HEADER_LENGTH + SLT_RECORD_LENGTH * (entities + edges) bytes, which is the length returned. Counts
+ * and last times are not in it: in a trail grown from the log of one that batches grew, each edge stands for its own event alone.
  *
  * Refused with 16, 15; then the length is 0 and nothing is written. Bytes after the log are left alone.
  */

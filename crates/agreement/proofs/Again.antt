@@ -20,6 +20,7 @@ use Rattle.rules.specs.PlainList.{changed, worked, itemsOf}
 use Rattle.rules.specs.History.{Item, kept, itemOf, keptEvents}
 use Rattle.rules.specs.Calls.{EnoughRows}
 use Rattle.soundness.specs.Taken.{RoomLeft, EventTaken}
+use Rattle.soundness.proofs.Hit.{decision-found}
 use Rattle.soundness.proofs.Taken.{event-taken}
 use Rattle.soundness.proofs.Put.{put-other}
 use Rattle.causality.specs.Working.{Grown}
@@ -101,10 +102,10 @@ module _ (F : Trail) (cap : Capacity) (w : Within cap) (room : EnoughRows cap (F
     edge-again : worked R .counts .edges < cap .edges
     edge-again = omega (arith, r .edges, step .edges, b .edges, room .edges)
 
-    room-again : (x : Decision) → made x ≡ made d → RoomLeft cap (worked R .counts) x
-    room-again (Repeat j) h = tt
+    room-again : (x : Decision) → d ≡ x → RoomLeft cap (worked R .counts) x
+    room-again (Repeat j) h = decision-found (worked R) e j (decided ∙ h) .0
     room-again Widen h = edge-again
-    room-again Renew h = (edge-again, omega (arith, h, r .versions, b .versions, step .versions, step .entities, room .versions))
+    room-again Renew h = (edge-again, omega (arith, ap made h, r .versions, b .versions, step .versions, step .entities, room .versions))
 
     taken-again : EventTaken cap (worked R) e d
     taken-again = record {
@@ -187,4 +188,4 @@ module _ (F : Trail) (cap : Capacity) (w : Within cap) (room : EnoughRows cap (F
     regrown (next {rs = rs} t cap₀ u (records.Event e) s h) b =
         let T = worked rs in
         let d = decisionOf T e in
-        regrown-event T e d cap₀ (taken-fine t .grown) refl (event-taken cap₀ T e d h) b (regrown t (before-event T F e d b))
+        regrown-event T e d cap₀ (taken-fine t .grown) refl (event-taken cap₀ T e h) b (regrown t (before-event T F e d b))

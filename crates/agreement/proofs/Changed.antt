@@ -13,7 +13,7 @@ use Rattle.record.specs.declared.Declaration.{Declaration}
 use Rattle.record.specs.declared.Event.{Event}
 use Rattle.record.specs.declared.Record.{Record}
 use Rattle.record.specs.declared.Record.the-variants as records
-use Rattle.rows.specs.Rows.{entityRow}
+use Rattle.rows.specs.Rows.{entityRow, recounted}
 use Rattle.rules.specs.declared.Decision.{Decision}
 use Rattle.rules.specs.declared.Decision.the-variants.{Repeat, Widen, Renew}
 use Rattle.rules.specs.Trail.{Capacity, Trail, latestOf}
@@ -21,7 +21,7 @@ use Rattle.rules.specs.Decide.{decisionOf}
 use Rattle.rules.specs.Record.{declared, happened, keptEdge, refusalOf, changeOf}
 use Rattle.rules.specs.PlainList.{put, changed}
 use Rattle.soundness.specs.Facts.{RowFacts}
-use Rattle.soundness.specs.Taken.{EventTaken}
+use Rattle.soundness.specs.Taken.{RoomLeft, EventTaken}
 use Rattle.soundness.proofs.Taken.{event-taken}
 use Rattle.closure.specs.Same.{SameRows}
 use Rattle.agreement.proofs.Judged.{latest-same, sort-same, decision-same}
@@ -64,22 +64,24 @@ module _ (T : Trail) (E : ℕ → EntityRow) (V′ : ℕ → VersionRow) (D : �
         to = record { 0 = p j };
         kind = keptEdge T e o .kind;
         time = e .time;
+        count = 1;
+        last = e .time;
       }
 
       edges-same : (o o′ : ℕ) → o ≡ o′ → (k : ℕ) → k < T .counts .edges + 1
           → put (T .edge) (T .counts .edges) (keptEdge T e o) k ≡ put D (T .counts .edges) (keptEdge other e o′) k
       edges-same o o′ p k l = put-alike (T .edge) D (T .counts .edges) _ _ k (edge-row o o′ p) (λ n. s .edge-rows k (omega arith))
 
-      happened-same : (d : Decision) → SameRows (changed T (happened T e d)) (changed other (happened other e d))
-      happened-same (Repeat k) = record {
+      happened-same : (cap : Capacity) (d : Decision) → RoomLeft cap (T .counts) d → SameRows (changed T (happened T e d)) (changed other (happened other e d))
+      happened-same cap (Repeat k) r = record {
         entities = refl;
         versions = refl;
         edges = refl;
         entity-rows = s .entity-rows;
         version-rows = s .version-rows;
-        edge-rows = s .edge-rows;
+        edge-rows = λ j l. put-alike (T .edge) D (k .0) _ _ j (ap (λ (x : EdgeRow). recounted x (x .count + 1) (e .time)) (s .edge-rows (k .0) r)) (λ n. s .edge-rows j l);
       }
-      happened-same Widen = record {
+      happened-same cap Widen r = record {
         entities = refl;
         versions = refl;
         edges = refl;
@@ -97,7 +99,7 @@ module _ (T : Trail) (E : ℕ → EntityRow) (V′ : ℕ → VersionRow) (D : �
 
           ended-same : latestOf T (e .target .0) < T .counts .versions → ended (T .version) (latestOf T (e .target .0)) ≡ ended V′ (latestOf T (e .target .0))
           ended-same l = ap (λ (r : VersionRow). record { entity = r .entity; start = r .start; end = e .time; previous = r .previous }) (s .version-rows _ l)
-      happened-same Renew = record {
+      happened-same cap Renew r = record {
         entities = refl;
         versions = refl;
         edges = refl;
@@ -121,18 +123,18 @@ module _ (T : Trail) (f : RowFacts T) (cap : Capacity) where
     abbrev U : Trail
     U = other T E V′ D
 
-    happened-alike : (e : Event) → EventTaken cap T e (decisionOf T e) → (d : Decision) → Alike (changed T (happened T e d)) (changed U (happened U e d))
-    happened-alike e p (Repeat k) = record { counts = refl; rows = happened-same T E V′ D s f e (p .source-in) (p .target-in) (Repeat k) }
-    happened-alike e p Widen = record { counts = refl; rows = happened-same T E V′ D s f e (p .source-in) (p .target-in) Widen }
-    happened-alike e p Renew = record { counts = refl; rows = happened-same T E V′ D s f e (p .source-in) (p .target-in) Renew }
+    happened-alike : (e : Event) (d : Decision) → EventTaken cap T e d → Alike (changed T (happened T e d)) (changed U (happened U e d))
+    happened-alike e (Repeat k) p = record { counts = refl; rows = happened-same T E V′ D s f e (p .source-in) (p .target-in) cap (Repeat k) (p .room-left) }
+    happened-alike e Widen p = record { counts = refl; rows = happened-same T E V′ D s f e (p .source-in) (p .target-in) cap Widen (p .room-left) }
+    happened-alike e Renew p = record { counts = refl; rows = happened-same T E V′ D s f e (p .source-in) (p .target-in) cap Renew (p .room-left) }
 
     other-alike : (r : Record) → refusalOf cap T r ≡ Passed → After r U
     unfolding refusalOf changeOf
     other-alike (records.Declaration d) h = record { counts = refl; rows = declared-same T E V′ D s f d }
     other-alike (records.Event e) h =
-        let p = event-taken cap T e (decisionOf T e) h in
+        let p = event-taken cap T e h in
         subst (λ (d : Decision). Alike (changed T (happened T e (decisionOf T e))) (changed U (happened U e d))) (decision-same refl s f e (p .source-in) (p .target-in))
-        (happened-alike e p (decisionOf T e))
+        (happened-alike e (decisionOf T e) p)
 
   pub changed-alike : (T′ : Trail) → Alike T T′ → (r : Record) → refusalOf cap T r ≡ Passed → After r T′
   changed-alike T′ a r h =

@@ -15,8 +15,9 @@ use Rattle.rules.specs.declared.Found.the-variants.{At, Nothing}
 use Rattle.rules.specs.Trail.{Trail, latestOf, ownerOf}
 use Rattle.rules.specs.Decide.{edgeNo, goesTo, newestTo, leaves, folds, repeatOf, hasOutgoing, decide, decisionOf}
 use Rattle.rules.specs.History.{Item, kept, itemOf, keptEvents}
+use Rattle.soundness.proofs.Hit.{Goes, newestTo-found}
 use Rattle.causality.specs.Working.{ne, Grown}
-use Rattle.agreement.proofs.Growing.{Goes, newestTo-found, leaves-none}
+use Rattle.agreement.proofs.Growing.{leaves-none}
 use Rattle.agreement.proofs.Recent.{EdgeTo, edge-again}
 
 -- What the searches find

@@ -1,6 +1,6 @@
 -- Demand 2: after any list of calls the counts and rows in use are those of the plain list, and a batch's answer says by how many
 -- records that list grew.
-use Prim.Native.Nat.{ℕ, suc, _+_, _≤_}
+use Prim.Native.Nat.{ℕ, suc, _+_, _≤_, _<_}
 use native.Mathlib.Omega.{arith}
 use mathlib.Core.Path.{_≡_, refl, sym, _∙_, ap, subst}
 use mathlib.Core.List.{List, [], _∷_, _++_, reverse, reverseAux-eq}
@@ -9,6 +9,7 @@ use Rattle.refusals.specs.declared.Checked.{Checked}
 use Rattle.refusals.specs.declared.Checked.the-variants.{Passed, Refused}
 use Rattle.refusals.specs.Refusals.{firstOf, numberOf}
 use Rattle.rows.specs.declared.Counts.{Counts}
+use Rattle.rows.specs.declared.EdgeRow.{EdgeRow}
 use Rattle.record.specs.declared.Record.{Record}
 use Rattle.record.specs.declared.Record.the-variants as records
 use Rattle.record.specs.declared.Event.{Event}
@@ -26,9 +27,10 @@ use Rattle.soundness.specs.Taken.{SortFits, Each}
 use Rattle.soundness.proofs.Decoded.{contents-fit}
 use Rattle.agreement.specs.Taken.{Within}
 use Rattle.agreement.specs.Demand2.{Holds, Answered, Demand2}
-use Rattle.agreement.proofs.Matching.{matches, lent-alike, lent-ready, Ready, checked-same, ready-next, capacity-within}
+use Rattle.agreement.proofs.Matching.{matches, lent-alike, lent-rows, lent-ready, Ready, checked-same, ready-next, capacity-within}
 use Rattle.agreement.proofs.Held.{known}
 use Rattle.agreement.proofs.Left.{left-by}
+use Rattle.agreement.proofs.Counted.{worked-stands}
 
 -- Each event of the plain list counts as accepted
 
@@ -57,6 +59,11 @@ held-holds cs a t l =
       accepted-are = ap (λ (c : Counts). c .accepted) (sym (s .counts)) ∙ accepted-count (plainAfter cs);
       edges-are = k .faithful .edges;
       kept = k .faithful .log;
+      counts-are = λ x i. let j : x < worked (plainAfter cs) .counts .edges = omega (arith, s .rows .edges) in
+          ap (λ (r : EdgeRow). r .count) (sym (s .rows .edge-rows x j)) ∙ worked-stands (plainAfter cs) .count-is x j;
+      lasts-are = λ x i. let j : x < worked (plainAfter cs) .counts .edges = omega (arith, s .rows .edges) in
+          ap (λ (r : EdgeRow). r .last) (sym (s .rows .edge-rows x j)) ∙ worked-stands (plainAfter cs) .last-is x j;
+      sum-is = lent-rows _ _ m t l .sum ∙ ap (λ (c : Counts). c .accepted) (sym (s .counts)) ∙ accepted-count (plainAfter cs);
       versions = k .faithful .versions;
     }
 

@@ -6,8 +6,8 @@ use native.Mathlib.Numerals.{add-one}
 use mathlib.Core.Path.{_≡_, refl, sym, _∙_, ap}
 use mathlib.Core.Logic.{inl, inr, ⊎-elim}
 use mathlib.Mathlib.Data.Bool.Basic.{or-eq-false-eq-eq-false-and-eq-false}
-use mathlib.Core.Bool.{Bool, true, false, cond}
-use borrow.Author.Tests.{eqb-true, eqb-false}
+use mathlib.Core.Bool.{Bool, true, false}
+use borrow.Author.Tests.{eqb-false}
 use Rattle.rows.specs.declared.EdgeNo.{EdgeNo}
 use Rattle.rows.specs.declared.EntityRow.{EntityRow}
 use Rattle.rows.specs.declared.VersionRow.{VersionRow}
@@ -19,12 +19,12 @@ use Rattle.rules.specs.declared.Found.the-variants.{At, Nothing}
 use Rattle.rules.specs.declared.Decision.{Decision}
 use Rattle.rules.specs.declared.Decision.the-variants.{Repeat, Widen}
 use Rattle.rules.specs.Trail.{Capacity, Trail, none, latestOf}
-use Rattle.rules.specs.Decide.{edgeNo, goesTo, newestTo, leaves, folds, repeatOf, hasOutgoing, decide, decisionOf}
+use Rattle.rules.specs.Decide.{leaves, repeatOf, hasOutgoing, decide, decisionOf}
 use Rattle.rules.specs.Record.{declared, repeated, widened, renewed}
 use Rattle.rules.specs.PlainList.{changed}
 use Rattle.rules.specs.Forward.{ForwardMarks}
 use Rattle.soundness.specs.Taken.{EventTaken}
-use Rattle.soundness.proofs.All.{and-parts}
+use Rattle.soundness.proofs.Hit.{decision-found}
 use Rattle.soundness.proofs.Put.{put-same, put-other}
 use Rattle.soundness.proofs.Extends.{Extends}
 use Rattle.soundness.proofs.Declared as by-declaration
@@ -34,24 +34,6 @@ use Rattle.soundness.proofs.Renewed as by-renewal
 use Rattle.causality.specs.Working.{Leads, Unused, Keeps, Same, Declares, AddsEdge}
 
 -- What the searches find
-
--- edge k goes from version f to a version of entity x
-abbrev pub Goes : (ℕ → EdgeRow) → (ℕ → VersionRow) → ℕ → ℕ → ℕ → Type 0
-Goes E W f x k = (E k .from .0 ≡ f) × (W (E k .to .0) .entity .0 ≡ x)
-
-goesTo-true : (E : ℕ → EdgeRow) (W : ℕ → VersionRow) (f x k : ℕ) → goesTo E W f x k ≡ true → Goes E W f x k
-unfolding goesTo
-goesTo-true E W f x k q = let z = and-parts _ _ q in (eqb-true _ _ (z .0), eqb-true _ _ (z .1))
-
-pub newestTo-found : (E : ℕ → EdgeRow) (W : ℕ → VersionRow) (f x n : ℕ) (k : EdgeNo) → newestTo E W f x n ≡ At k → (k .0 < n) × Goes E W f x (k .0)
-unfolding newestTo
-newestTo-found E W f x zero k h = absurd (let z : _≡_ {A = ℕ} 0 1 = cc in omega arith)
-newestTo-found E W f x (suc n) k h = go (goesTo E W f x n) refl (λ q. newestTo-found E W f x n k q) h
-  where
-    go : (b : Bool) → goesTo E W f x n ≡ b → (newestTo E W f x n ≡ At k → (k .0 < n) × Goes E W f x (k .0))
-        → cond b (At (edgeNo n)) (newestTo E W f x n) ≡ At k → (k .0 < suc n) × Goes E W f x (k .0)
-    go true q ih h = let p : n ≡ k .0 = cc in (omega arith, rw (← p) (goesTo-true E W f x n q))
-    go false q ih h = let z = ih h in (omega (arith, z .0), z .1)
 
 -- where none leaves f, no edge below n does
 pub leaves-none : (E : ℕ → EdgeRow) (f n : ℕ) → leaves E f n ≡ false → (k : ℕ) → k < n → E k .from .0 ≡ f → ⊥
@@ -63,36 +45,19 @@ leaves-none E f (suc n) h k l p =
 
 module _ (T : Trail) (e : Event) where
   -- a repeat: an edge leads from the source's latest version to a version of the target
-  repeat-leads : (k : EdgeNo) → repeatOf T e ≡ At k → Leads T (latestOf T (e .source .0)) (e .target .0)
-  unfolding repeatOf
-  repeat-leads k h = go (folds (e .kind)) refl h
-    where
-      go : (b : Bool) → folds (e .kind) ≡ b
-          → cond b (newestTo (T .edge) (T .version) (latestOf T (e .source .0)) (e .target .0) (T .counts .edges)) Nothing ≡ At k
-          → Leads T (latestOf T (e .source .0)) (e .target .0)
-      go true q h =
-          let z = newestTo-found (T .edge) (T .version) _ _ _ k h in
-          record {
-            version = T .edge (k .0) .to .0;
-            marked = ForwardMarks.leaving (k .0) (z .0) (ForwardMarks.start (z .1 .0)) refl;
-            owner = z .1 .1;
-          }
-      go false q h = absurd (let z : _≡_ {A = ℕ} 0 1 = cc in omega arith)
-
-  -- what a decision says of the rows
-  decided : (x : Found) (g : Bool) (k : EdgeNo) → decide x g ≡ Repeat k → x ≡ At k
-  decided (At j) g k h = let p : j ≡ k = cc in ap At p
-  decided Nothing true k h = absurd (let z : _≡_ {A = ℕ} 0 1 = cc in omega arith)
-  decided Nothing false k h = absurd (let z : _≡_ {A = ℕ} 0 1 = cc in omega arith)
+  pub repeat-may-drop : (k : EdgeNo) → decisionOf T e ≡ Repeat k → Leads T (latestOf T (e .source .0)) (e .target .0)
+  repeat-may-drop k h =
+      let z = decision-found T e k h in
+      record {
+        version = T .edge (k .0) .to .0;
+        marked = ForwardMarks.leaving (k .0) (z .0) (ForwardMarks.start (z .1 .0)) refl;
+        owner = z .1 .1;
+      }
 
   decided-widen : (x : Found) (g : Bool) → decide x g ≡ Widen → g ≡ false
   decided-widen (At j) g h = absurd (let z : _≡_ {A = ℕ} 0 1 = cc in omega arith)
   decided-widen Nothing true h = absurd (let z : _≡_ {A = ℕ} 0 1 = cc in omega arith)
   decided-widen Nothing false h = refl
-
-  pub repeat-may-drop : (k : EdgeNo) → decisionOf T e ≡ Repeat k → Leads T (latestOf T (e .source .0)) (e .target .0)
-  unfolding decisionOf
-  repeat-may-drop k h = repeat-leads k (decided _ _ k h)
 
   widen-unused : decisionOf T e ≡ Widen → Unused T (latestOf T (e .target .0))
   unfolding decisionOf hasOutgoing
@@ -105,10 +70,10 @@ keeps x = record {
   owner-old = x .owner-same;
   start-old = x .start-same;
   previous-old = x .previous-same;
-  from-old = λ k l. ap (λ (r : EdgeRow). r .from .0) (x .edge-same k l);
-  to-old = λ k l. ap (λ (r : EdgeRow). r .to .0) (x .edge-same k l);
-  kind-old = λ k l. ap (λ (r : EdgeRow). r .kind) (x .edge-same k l);
-  time-old = λ k l. ap (λ (r : EdgeRow). r .time) (x .edge-same k l);
+  from-old = x .edges .from-same;
+  to-old = x .edges .to-same;
+  kind-old = x .edges .kind-same;
+  time-old = x .edges .time-same;
 }
 
 pub declares : (T : Trail) (d : Declaration) → Declares T (changed T (declared (T .counts) d))
@@ -124,10 +89,10 @@ declares T d = record {
   old = keeps (by-declaration.declared-extends T d);
 }
 
-module _ (cap : Capacity) (T : Trail) (e : Event) (d : Decision) (p : EventTaken cap T e d) where
-  pub repeats : Same T (changed T (repeated T e))
-  repeats = record { ne-is = refl; nv-is = refl; nd-is = refl; latest-old = λ y l. refl; old = keeps (repeated-extends cap T e d p) }
+pub repeats : (cap : Capacity) (T : Trail) (e : Event) (k : EdgeNo) → EventTaken cap T e (Repeat k) → Same T (changed T (repeated T e (k .0)))
+repeats cap T e k p = record { ne-is = refl; nv-is = refl; nd-is = refl; latest-old = λ y l. refl; old = keeps (repeated-extends cap T e k p) }
 
+module _ (cap : Capacity) (T : Trail) (e : Event) (d : Decision) (p : EventTaken cap T e d) where
   pub widens : decisionOf T e ≡ Widen → AddsEdge T (changed T (widened T e)) e (latestOf T (e .target .0))
   widens h = record {
     ne-is = refl;

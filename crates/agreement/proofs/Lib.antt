@@ -8,10 +8,12 @@ pub mod Plain
 pub mod Matching
 pub mod Held
 pub mod Left
-pub mod Demand2
 pub mod Demand3
--- The kept log taken in again
+-- What the edges stand for, and demand 2
 pub mod KeptOnly
+pub mod Counted
+pub mod Demand2
+-- The kept log taken in again
 pub mod Recent
 pub mod Decided
 pub mod Passing

@@ -49,7 +49,7 @@ module _ (cap : Capacity) (w : Within cap) (T : Trail) (hs : List Item) (f : Fin
     latest-some h q = let a = f .rows .entity (e .target .0) h .latest-in in let b = f .counted .versions-in in omega arith
 
     grown-event : (d : Decision) → decisionOf T e ≡ d → EventTaken cap T e d → Grown (changed T (happened T e d)) (itemOf d e ∷ hs)
-    grown-event (Repeat k) q p = grown-same (Grown.repeated (f .grown) e (fit (Repeat k) p) (repeat-may-drop T e k q)) (repeats cap T e (Repeat k) p)
+    grown-event (Repeat k) q p = grown-same (Grown.repeated (f .grown) e (fit (Repeat k) p) (repeat-may-drop T e k q)) (repeats cap T e k p)
     grown-event Widen q p = Grown.entered (f .grown) e (fit Widen p) _ (widens cap T e Widen p q)
     grown-event Renew q p = Grown.entered (f .grown) e (fit Renew p) _ (renews cap T e Renew p (latest-some (p .target-in)))
 
@@ -82,7 +82,7 @@ fine-next cap w rs f (records.Declaration d) s h = record {
 fine-next cap w rs f (records.Event e) s h =
     let T = worked rs in
     let d = decisionOf T e in
-    let p = event-taken cap T e d h in
+    let p = event-taken cap T e h in
     record {
       rows = step-rows cap T (records.Event e) s h (f .rows);
       counted = counts-next cap w T (f .counted) (records.Event e) h;

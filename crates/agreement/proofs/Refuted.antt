@@ -1,7 +1,7 @@
 -- Each wrong answer contradicts the claim: the worked list of calls has one answer (`WorkedAnswers`), and it is another.
 use Prim.Native.Nat.{ℕ}
 use native.Mathlib.Omega.{arith}
-use mathlib.Core.Path.{_≡_, sym, _∙_, ap}
+use mathlib.Core.Path.{_≡_, refl, sym, _∙_, ap}
 use mathlib.Core.Bool.{Bool, true, false, cond}
 use mathlib.Core.List.{List}
 use lib.ListN.{length, replicate}
@@ -17,9 +17,12 @@ use Rattle.rows.specs.declared.EdgeRow.{EdgeRow}
 use Rattle.rules.specs.declared.BatchAnswer.{BatchAnswer}
 use Rattle.rules.specs.declared.BackwardAnswer.{BackwardAnswer}
 use Rattle.rules.specs.PlainList.{worked}
+use Rattle.rules.specs.StandsFor.{standsFor}
 use Rattle.rules.specs.Backward.{traceRefusals}
+use Rattle.rules.specs.CallCases.{execves}
+use Rattle.rules.proofs.Computed.{computed}
 use Rattle.agreement.specs.Refuted.{workedPlain, NoAnswer, Refuted}
-use Rattle.agreement.proofs.WorkedAnswers.{rows, entities-are, versions-are, edges-are, accepted-are, last-is, stager-row, report-version, edge-at-6, answer-is, p4-count, not-refused, log-not-refused, backward-is, forward-is}
+use Rattle.agreement.proofs.WorkedAnswers.{rows, entities-are, versions-are, edges-are, accepted-are, last-is, stager-row, report-version, edge-at-1, edge-at-6, answer-is, p4-count, not-refused, log-not-refused, backward-is, forward-is}
 use Rattle.agreement.proofs.NoEdge.{no-edge-traced}
 use Rattle.agreement.proofs.LongerPaths.{montage-back, study-forward, montage-forward}
 use Rattle.agreement.proofs.GainDropped.{time-6-kept}
@@ -34,6 +37,15 @@ not-16 rs x work marks = go (leb (worked rs .counts .entities) x) (ltb (length w
     go false true d q = omega arith
     go false false true q = omega arith
     go false false false q = omega arith
+
+-- of two execves and a read that repeats both, the first execve's edge stands for that event alone
+execves-edges : worked execves .counts .edges ≡ 2
+unfolding computed
+execves-edges = refl
+
+execves-first : length (standsFor execves 0) ≡ 1
+unfolding computed
+execves-first = refl
 
 eleven : (k : ℕ) → (k ≡ 11 → ⊥) → NoAnswer 8 (λ a. a .taken ≡ k)
 eleven k n a w g = n (sym w ∙ ap (λ (z : BatchAnswer). z .taken) (answer-is 8 a g ∙ rows .p1-answer))
@@ -76,6 +88,14 @@ refuted = record {
   edge-from-older = λ c t w h. omega (arith, ap (λ (r : EdgeRow). r .from .0) (edge-at-6 h));
   end-not-widened = λ c t w h. omega (arith, ap (λ (r : VersionRow). r .end) (report-version h));
   latest-not-new = λ c t w h. omega (arith, ap (λ (r : EntityRow). r .latest .0) (stager-row h));
+  repeat-not-counted = λ c t w h. omega (arith, ap (λ (r : EdgeRow). r .count) (edge-at-1 h));
+  repeat-counted-elsewhere = λ c t w h. omega (arith, ap (λ (r : EdgeRow). r .count) (edge-at-6 h));
+  last-not-set = λ c t w h. omega (arith, ap (λ (r : EdgeRow). r .last) (edge-at-1 h));
+  last-of-the-trail = λ c t w h. omega (arith, ap (λ (r : EdgeRow). r .last) (edge-at-1 h));
+  sum-free = λ c t w h. w (h .sum-is ∙ sym (h .accepted-are) ∙ accepted-are h);
+  count-on-the-oldest = λ c t w h.
+      let n = ap (λ (z : Counts). z .edges) (h .counts) in
+      omega (arith, h .counts-are 0 (omega (arith, execves-edges)), execves-first);
   all-refused = eleven 0 (λ q. omega arith);
   first-record-taken = eleven 1 (λ q. omega arith);
   no-row-left = eleven 9 (λ q. omega arith);
@@ -87,5 +107,7 @@ refuted = record {
   log-always-refused = λ c t out k l w a. w (a .refusal ∙ log-not-refused out l);
   log-of-no-event = λ b w a. omega (arith, a .same .edges, ap (λ (z : Counts). z .edges) (rows .p1-counts));
   log-refused = λ b w a. w (ap (λ (z : BatchAnswer). z .refusal) (a .answer));
+  log-counts-kept = λ b w a. w (a .counts-one 0 (omega (arith, ap (λ (z : Counts). z .edges) (rows .p1-counts))));
+  log-lasts-kept = λ b w a. w (a .lasts-own 0 (omega (arith, ap (λ (z : Counts). z .edges) (rows .p1-counts))));
   log-other-trace = λ b w a. w (ap (λ (z : BackwardAnswer). z .count) (a .calls .backward-answer 2 6 (replicate 6 9) (replicate 5 9)) ∙ p4-count);
 }

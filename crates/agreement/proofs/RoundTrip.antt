@@ -12,6 +12,7 @@ use Rattle.refusals.specs.declared.Checked.the-variants.{Passed, Refused}
 use Rattle.refusals.specs.Refusals.{refusalNo, firstOf, numberOf}
 use Rattle.rows.specs.declared.Counts.{Counts}
 use Rattle.rows.specs.declared.EntityRow.{EntityRow}
+use Rattle.rows.specs.declared.EdgeRow.{EdgeRow}
 use Rattle.record.specs.declared.Event.{Event}
 use Rattle.record.specs.declared.Record.{Record}
 use Rattle.record.specs.Header.{headerChecks}
@@ -35,6 +36,7 @@ use Rattle.agreement.proofs.Matching.{Matches, matches, lent-alike, len
 use Rattle.agreement.proofs.Held.{Known, known}
 use Rattle.agreement.proofs.Left.{own-lent, left-by}
 use Rattle.agreement.proofs.KeptOnly.{allKept, keptEvents-allKept}
+use Rattle.agreement.proofs.Counted.{AllKept, allKept-are, worked-own}
 use Rattle.agreement.proofs.Relogged.{relogged}
 use Rattle.agreement.proofs.Again.{Before, Regrown, regrown}
 use Rattle.agreement.proofs.TracesAgain.{backward-again, forward-again, intake-again}
@@ -112,6 +114,13 @@ module _ (h : Held) (rs : List Record) (m : Matches h rs) (t : Tables) (l : Lent
     entities-again : U .counts .entities ≡ T .counts .entities
     entities-again = sym (y .alike .rows .entities) ∙ again .entities
 
+    -- each edge stands for its own event alone
+    own-again : (k : ℕ) → k < T .counts .edges → (U .edge k .count ≡ 1) × (U .edge k .last ≡ U .edge k .time)
+    own-again k i =
+        let z : k < worked R .counts .edges = omega (arith, again .edges, lent-alike h rs m t l .rows .edges) in
+        subst (λ (r : EdgeRow). (r .count ≡ 1) × (r .last ≡ r .time)) (y .alike .rows .edge-rows k z)
+        (worked-own R (subst AllKept (sym (again .items)) (allKept-are ks)) k z)
+
     same-traces : SameTraces T U
     same-traces =
         let a = lent-alike h rs m t l .rows in
@@ -144,6 +153,8 @@ module _ (h : Held) (rs : List Record) (m : Matches h rs) (t : Tables) (l : Lent
         record {
           answer = batch-answer lent file header R (again .by) q ∙ (λ j. record { refusal = 0; taken = n j });
           same = same-traces _ _ y .trail;
+          counts-one = λ k i. own-again _ _ y k i .0;
+          lasts-own = λ k i. own-again _ _ y k i .1;
           calls = same-calls _ t _ _ (same-traces _ _ y) (lent-sound h rs m t l) (y .sound);
         }
 

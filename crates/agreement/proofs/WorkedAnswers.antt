@@ -78,8 +78,11 @@ module _ {c : Counts} {t : Tables} (h : Holds workedPlain c t) where
   pub report-version : versionAt (t .versions) 2 ≡ versionRow 2 0 6 none
   report-version = same .1 .version-rows 2 (omega (arith, versions-are)) ∙ ap (λ (l : List VersionRow). getD l 2 (versionRow 0 0 0 0)) (rows .p1-versions)
 
-  pub edge-at-6 : edgeAt (t .edges) 3 ≡ edgeRow 4 2 2 6
-  edge-at-6 = same .1 .edge-rows 3 (omega (arith, edges-are)) ∙ ap (λ (l : List EdgeRow). getD l 3 (edgeRow 0 0 0 0)) (rows .p1-edges)
+  pub edge-at-1 : edgeAt (t .edges) 0 ≡ edgeRow 0 1 1 1 2 3
+  edge-at-1 = same .1 .edge-rows 0 (omega (arith, edges-are)) ∙ ap (λ (l : List EdgeRow). getD l 0 (edgeRow 0 0 0 0 0 0)) (rows .p1-edges)
+
+  pub edge-at-6 : edgeAt (t .edges) 3 ≡ edgeRow 4 2 2 6 1 6
+  edge-at-6 = same .1 .edge-rows 3 (omega (arith, edges-are)) ∙ ap (λ (l : List EdgeRow). getD l 3 (edgeRow 0 0 0 0 0 0)) (rows .p1-edges)
 
 -- How many records a batch took in, lent n edge rows, and what it was refused for
 

@@ -1,5 +1,5 @@
 -- Demand 2, of every list of calls: the tables are those that the plain list gives when worked from none. The working
--- (`worked`) is the version building of the paper's section 4 under document 01's rules.
+-- (`worked`) is the version building of the paper's section 4 under document 01's rules, with the counts of document 02, 2.1.
 use Prim.Native.Nat.{ℕ, _+_, _≤_, _<_}
 use mathlib.Core.Path.{_≡_}
 use mathlib.Core.List.{List, _∷_, _++_, reverse}
@@ -10,9 +10,11 @@ use Rattle.rows.specs.Rows.{entityAt, versionAt, edgeAt}
 use Rattle.record.specs.declared.Record.{Record}
 use Rattle.rules.specs.declared.BatchAnswer.{BatchAnswer}
 use Rattle.rules.specs.Trail.{Tables, capacityOf, trailOf}
+use Rattle.rules.specs.Sound.{countSum}
 use Rattle.rules.specs.Batch.{contentsOf, batchOf}
 use Rattle.rules.specs.History.{accepted, keptEvents}
 use Rattle.rules.specs.PlainList.{worked, itemsOf, refusedBy}
+use Rattle.rules.specs.StandsFor.{standsFor, lastTime}
 use Rattle.rules.specs.Calls.{Call, batch, plainAfter}
 use Rattle.causality.specs.Statements.{Logged}
 use Rattle.agreement.specs.Left.{LeftBy}
@@ -27,6 +29,11 @@ pub record Holds (rs : List Record) (c : Counts) (t : Tables) : Type 0 where
   -- the edges are the kept events in order, with their kinds, entities and times
   pub edges-are : c .edges ≡ length (keptEvents (itemsOf rs))
   pub kept : Logged (trailOf c t) (keptEvents (itemsOf rs))
+  -- document 02, 2.1: an edge's count is how many accepted events it stands for, and its last time is that of the last of these; the
+  -- sum of the counts is "the events accepted, counted from the files"
+  pub counts-are : (k : ℕ) → k < c .edges → edgeAt (t .edges) k .count ≡ length (standsFor rs k)
+  pub lasts-are : (k : ℕ) → k < c .edges → edgeAt (t .edges) k .last ≡ lastTime (standsFor rs k)
+  pub sum-is : countSum (edgeAt (t .edges)) (c .edges) ≡ length (accepted (itemsOf rs))
   -- "Over a trail grown from fresh, versions ≤ entities + edges."
   pub versions : c .versions ≤ c .entities + c .edges
 

@@ -1,6 +1,6 @@
 -- Document 01, "Agreement": "These are shut out". The claims determine counts, rows in use, marks, count, intake and the numbers that the
 -- calls return (`Determined`, and equations), so a wrong one contradicts them. `Refuted` says it of each wrong answer that the document
--- names, for the worked list of calls or that list with one event more: no answer that is wrong in this way, whatever it is otherwise,
+-- names, for the worked list of calls, that list with one event more, or two execves and a read: no answer that is wrong in this way, whatever it is otherwise,
 -- is one of which the claim holds.
 use Prim.Native.Nat.{ℕ, _≤_, _<_}
 use mathlib.Core.Path.{_≡_}
@@ -14,6 +14,7 @@ use Rattle.record.specs.declared.Event.{Event}
 use Rattle.record.specs.declared.Record.{Record}
 use Rattle.rules.specs.declared.BatchAnswer.{BatchAnswer}
 use Rattle.rules.specs.Trail.{Tables, trailOf}
+use Rattle.rules.specs.Sound.{countSum}
 use Rattle.rules.specs.Batch.{Batched}
 use Rattle.rules.specs.Backward.{BackwardTrace, backwardOf}
 use Rattle.rules.specs.Forward.{ForwardTrace}
@@ -22,6 +23,7 @@ use Rattle.rules.specs.History.{Item, accepted, keptEvents}
 use Rattle.rules.specs.PlainList.{worked, itemsOf}
 use Rattle.rules.specs.Calls.{Call, batch, plainAfter}
 use Rattle.rules.specs.Worked as worked-trail
+use Rattle.rules.specs.CallCases.{execves}
 use Rattle.closure.specs.Same.{SameRows}
 use Rattle.agreement.specs.Demand2.{Holds, Answered}
 use Rattle.agreement.specs.Demand3.{BackwardAgrees, ForwardAgrees, GainsAreKept}
@@ -137,6 +139,15 @@ pub record Refuted : Type 0 where
   pub edge-from-older : NoTables (λ c t. edgeAt (t .edges) 3 .from .0 ≡ 1)
   pub end-not-widened : NoTables (λ c t. versionAt (t .versions) 2 .end ≡ 2)
   pub latest-not-new : NoTables (λ c t. entityAt (t .entities) 1 .latest .0 ≡ 1)
+  -- document 02, 2.1: the read at 3 counted by no edge, or by the edge at 6; the last time as when the edge was kept, or the trail's;
+  -- counts with another sum than 7
+  pub repeat-not-counted : NoTables (λ c t. edgeAt (t .edges) 0 .count ≡ 1)
+  pub repeat-counted-elsewhere : NoTables (λ c t. edgeAt (t .edges) 3 .count ≡ 2)
+  pub last-not-set : NoTables (λ c t. edgeAt (t .edges) 0 .last ≡ 1)
+  pub last-of-the-trail : NoTables (λ c t. edgeAt (t .edges) 0 .last ≡ 7)
+  pub sum-free : NoTables (λ c t. (countSum (edgeAt (t .edges)) (c .edges) ≡ 7 → ⊥))
+  -- two execves and a read that repeats both: the oldest edge counts it
+  pub count-on-the-oldest : (c : Counts) (t : Tables) → edgeAt (t .edges) 0 .count ≡ 2 → Holds execves c t → ⊥
   -- "a call refusing all files"; the first record alone
   pub all-refused : NoAnswer 8 (λ a. a .taken ≡ 0)
   pub first-record-taken : NoAnswer 8 (λ a. a .taken ≡ 1)
@@ -157,6 +168,9 @@ pub record Refuted : Type 0 where
   -- the kept log without its events, or refused
   pub log-of-no-event : (b : Batched) → b .counts .edges ≡ 0 → TakenAgainClaim b → ⊥
   pub log-refused : (b : Batched) → (b .answer .refusal ≡ 0 → ⊥) → TakenAgainClaim b → ⊥
+  -- a count that is not 1, a last time that is not the edge's own
+  pub log-counts-kept : (b : Batched) → (edgeAt (b .tables .edges) 0 .count ≡ 1 → ⊥) → TakenAgainClaim b → ⊥
+  pub log-lasts-kept : (b : Batched) → (edgeAt (b .tables .edges) 0 .last ≡ edgeAt (b .tables .edges) 0 .time → ⊥) → TakenAgainClaim b → ⊥
   -- the trail that took the log in gives another count than 4 in P4
   pub log-other-trace : (b : Batched) → (backwardOf (b .counts) (b .tables) 2 6 (replicate 6 9) (replicate 5 9) .answer .count ≡ 4 → ⊥)
       → TakenAgainClaim b → ⊥

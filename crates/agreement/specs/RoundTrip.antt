@@ -9,6 +9,7 @@ use lib.Dec.{ltb}
 use Rattle.refusals.specs.declared.Refusal.the-variants.{OutputShort}
 use Rattle.refusals.specs.Refusals.{refusalNo}
 use Rattle.rows.specs.declared.Counts.{Counts}
+use Rattle.rows.specs.Rows.{edgeAt}
 use Rattle.rules.specs.Trail.{Tables, capacityOf, Trail, trailOf, freshCounts}
 use Rattle.rules.specs.Batch.{Batched, batchOf}
 use Rattle.rules.specs.Backward.{backwardOf}
@@ -33,10 +34,13 @@ pub record SameCalls (c : Counts) (t : Tables) (c′ : Counts) (t′ : Tables) :
   pub forward-marks : (u time : ℕ) (work marks : List ℕ) → forwardOf c′ t′ u time work marks .marks ≡ forwardOf c t u time work marks .marks
   pub log : (out : List ℕ) → keptLogOf c′ t′ out ≡ keptLogOf c t out
 
--- the batch takes in every record of the log, and the trail that it leaves is the same
+-- the batch takes in every record of the log, and the trail that it leaves is the same, but for counts and last times of edges
 pub record TakenAgain (c : Counts) (t : Tables) (b : Batched) : Type 0 where
   pub answer : b .answer ≡ record { refusal = 0; taken = c .entities + c .edges }
   pub same : SameTrail (trailOf c t) (trailOf (b .counts) (b .tables))
+  -- document 02, 2.1: "a trail regrown .. has counts of 1"; each edge stands for its own event alone
+  pub counts-one : (k : ℕ) → k < c .edges → edgeAt (b .tables .edges) k .count ≡ 1
+  pub lasts-own : (k : ℕ) → k < c .edges → edgeAt (b .tables .edges) k .last ≡ edgeAt (b .tables .edges) k .time
   pub calls : SameCalls c t (b .counts) (b .tables)
 
 -- What a writer lent out returns and leaves after the calls cs: it is refused only with 15, if the output is shorter than the kept log

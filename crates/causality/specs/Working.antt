@@ -58,7 +58,7 @@ Unused T w = (b t : ℕ) → EdgeIn T w b t → ⊥
 
 -- What a record does to it
 
--- the versions of T, but for their ends, and its edges stand in T′
+-- the versions of T, but for their ends, and its edges, but for counts and last times, stand in T′
 pub record Keeps (T T′ : Trail) : Type 0 where
   pub owner-old : (a : ℕ) → a < nv T → ownerOf T′ a ≡ ownerOf T a
   pub start-old : (a : ℕ) → a < nv T → startTime T′ a ≡ startTime T a
@@ -68,7 +68,7 @@ pub record Keeps (T T′ : Trail) : Type 0 where
   pub kind-old : (k : ℕ) → k < nd T → T′ .edge k .kind ≡ T .edge k .kind
   pub time-old : (k : ℕ) → k < nd T → T′ .edge k .time ≡ T .edge k .time
 
--- the same rows in use, but for sorts and ends
+-- the same rows in use, but for sorts, ends, and counts and last times of edges
 pub record Same (T T′ : Trail) : Type 0 where
   pub ne-is : ne T′ ≡ ne T
   pub nv-is : nv T′ ≡ nv T

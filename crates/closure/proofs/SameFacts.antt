@@ -1,12 +1,15 @@
 -- Trails with the same rows in use: the facts of sound tables carry over.
 use Prim.Native.Nat.{_<_}
 use native.Mathlib.Omega.{arith}
-use mathlib.Core.Path.{_≡_, sym, ap}
+use mathlib.Core.Path.{_≡_, sym, _∙_, ap}
 use Rattle.rows.specs.declared.EntityRow.{EntityRow}
 use Rattle.rows.specs.declared.VersionRow.{VersionRow}
+use Rattle.rows.specs.declared.EdgeRow.{EdgeRow}
 use Rattle.rules.specs.Trail.{Trail}
+use Rattle.rules.specs.Sound.{countSum}
 use Rattle.soundness.specs.Facts.{RowFacts}
-use Rattle.soundness.proofs.Extends.{Extends, old-entity, old-version, old-edge, old-rises}
+use Rattle.soundness.proofs.Sums.{countSum-same}
+use Rattle.soundness.proofs.Extends.{Extends, rows-stay, old-entity, old-version, same-edge, old-rises}
 use Rattle.closure.specs.Same.{SameRows}
 
 module _ {T T′ : Trail} (s : SameRows T T′) (last : T .counts .last ≡ T′ .counts .last) where
@@ -19,11 +22,11 @@ module _ {T T′ : Trail} (s : SameRows T T′) (last : T .counts .last ≡ T′
     owner-same = λ k l. sym (ap (λ (r : VersionRow). r .entity .0) (s .version-rows k l));
     start-same = λ k l. sym (ap (λ (r : VersionRow). r .start) (s .version-rows k l));
     previous-same = λ k l. sym (ap (λ (r : VersionRow). r .previous .0) (s .version-rows k l));
-    edge-same = λ k l. sym (s .edge-rows k l);
+    edges = rows-stay (λ k l. sym (s .edge-rows k l));
   }
 
-  pub rowFacts-same : RowFacts T → RowFacts T′
-  rowFacts-same f = record {
+  pub rowFacts-same : T .counts .accepted ≡ T′ .counts .accepted → RowFacts T → RowFacts T′
+  rowFacts-same accepted f = record {
     entity = λ x l.
         let h : x < T .counts .entities = omega (arith, s .entities) in
         old-entity T T′ f same-extends x h (sym (ap (λ (r : EntityRow). r .latest .0) (s .entity-rows x h)));
@@ -33,6 +36,8 @@ module _ {T T′ : Trail} (s : SameRows T T′) (last : T .counts .last ≡ T′
         let start = ap (λ (r : VersionRow). r .start) (s .version-rows k h) in
         let end = ap (λ (r : VersionRow). r .end) (s .version-rows k h) in
         old-version T T′ f same-extends k h (omega (arith, v .start-end)) (omega (arith, v .end-last));
-    edge = λ k l. old-edge T T′ f same-extends k (omega (arith, s .edges));
+    edge = λ k l. let h : k < T .counts .edges = omega (arith, s .edges) in same-edge T T′ f same-extends k h (sym (s .edge-rows k h));
     rises = λ k l. old-rises T T′ f same-extends k (omega (arith, s .edges));
+    sum = ap (countSum (T′ .edge)) (sym (s .edges)) ∙ sym (countSum-same (T .edge) (T′ .edge) (T .counts .edges) (λ k l. ap (λ (r : EdgeRow). r .count) (s .edge-rows k l)))
+        ∙ f .sum ∙ accepted;
   }

@@ -82,7 +82,7 @@ fn print_refusal(a: BatchAnswer) {
 fn list(file: &[u8]) {
     let mut entities = [0u32; 5460];
     let mut versions = [0u32; 10920];
-    let mut edges = [0u32; 10920];
+    let mut edges = [0u32; 16380];
     let fresh = Counts {
         entities: 0,
         versions: 0,

@@ -27,15 +27,36 @@ getD-zeros zero i = refl
 getD-zeros (suc n) zero = refl
 getD-zeros (suc n) (suc i) = getD-zeros n i
 
--- two and four stores in code, one after another
+-- Stores in code, one after another
 
 pub two-stores : (xs x1 x2 : List ℕ) (i a b : ℕ) → x1 ≡ set xs i a → x2 ≡ set x1 (i + 1) b → x2 ≡ sets xs i (a ∷ b ∷ [])
 two-stores xs x1 x2 i a b p q = rw (q, p, add-one)
 
-pub four-stores : (xs x1 x2 x3 x4 : List ℕ) (i a b c d : ℕ) → x1 ≡ set xs i a → x2 ≡ set x1 (i + 1) b → x3 ≡ set x2 (i + 2) c → x4 ≡ set x3 (i + 3) d
-    → x4 ≡ sets xs i (a ∷ b ∷ c ∷ d ∷ [])
-four-stores xs x1 x2 x3 x4 i a b c d p q r s =
+pub two-pairs : (xs x1 x2 : List ℕ) (i a b c d : ℕ) → x1 ≡ sets xs i (a ∷ b ∷ []) → x2 ≡ sets x1 (i + 2) (c ∷ d ∷ [])
+    → x2 ≡ sets xs i (a ∷ b ∷ c ∷ d ∷ [])
+two-pairs xs x1 x2 i a b c d p q =
+    let e : i + 2 ≡ suc (suc i) = omega arith in
+    rw (q, p, e)
+
+pub three-pairs : (xs x1 x2 x3 : List ℕ) (i a b c d e f : ℕ) → x1 ≡ sets xs i (a ∷ b ∷ []) → x2 ≡ sets x1 (i + 2) (c ∷ d ∷ []) → x3 ≡ sets x2 (i + 4) (e ∷ f ∷ [])
+    → x3 ≡ sets xs i (a ∷ b ∷ c ∷ d ∷ e ∷ f ∷ [])
+three-pairs xs x1 x2 x3 i a b c d e f p q r =
+    let e2 : i + 2 ≡ suc (suc i) = omega arith in
+    let e4 : i + 4 ≡ suc (suc (suc (suc i))) = omega arith in
+    rw (r, q, p, e2, e4)
+
+-- A number stored where it stands changes nothing
+set-same : (xs : List ℕ) (i : ℕ) → set xs i (getD xs i 0) ≡ xs
+set-same [] i = refl
+set-same (x ∷ xs) zero = refl
+set-same (x ∷ xs) (suc i) = ap (λ (ys : List ℕ). x ∷ ys) (set-same xs i)
+
+-- the last two of a run of six, of which the first four stand already
+pub last-pair : (xs x1 : List ℕ) (i e f : ℕ) → x1 ≡ sets xs (i + 4) (e ∷ f ∷ [])
+    → x1 ≡ sets xs i (getD xs i 0 ∷ getD xs (i + 1) 0 ∷ getD xs (i + 2) 0 ∷ getD xs (i + 3) 0 ∷ e ∷ f ∷ [])
+last-pair xs x1 i e f p =
     let e1 : i + 1 ≡ suc i = omega arith in
     let e2 : i + 2 ≡ suc (suc i) = omega arith in
     let e3 : i + 3 ≡ suc (suc (suc i)) = omega arith in
-    rw (s, r, q, p, e1, e2, e3)
+    let e4 : i + 4 ≡ suc (suc (suc (suc i))) = omega arith in
+    rw (p, e1, e2, e3, e4, set-same xs i, set-same xs (suc i), set-same xs (suc (suc i)), set-same xs (suc (suc (suc i))))

@@ -68,3 +68,15 @@ pub fn edge_time(edges: &[u32], n: EdgeNo) -> u32
 {
     at(edges, EDGE_WIDTH * (n.0 as usize) + 3)
 }
+
+pub fn edge_count(edges: &[u32], n: EdgeNo) -> u32
+    ensures { λ r. ⌜ r ≡ edgeAt (now (edges .entry)) (n .0) .count ⌝ }
+{
+    at(edges, EDGE_WIDTH * (n.0 as usize) + 4)
+}
+
+pub fn edge_last(edges: &[u32], n: EdgeNo) -> u32
+    ensures { λ r. ⌜ r ≡ edgeAt (now (edges .entry)) (n .0) .last ⌝ }
+{
+    at(edges, EDGE_WIDTH * (n.0 as usize) + 5)
+}

@@ -21,8 +21,13 @@ callCases = record {
   worked-entities = refl;
   worked-versions = refl;
   worked-edges = refl;
+  stand-times = refl;
+  stand-for-newest = refl;
+  last-times = refl;
   calls-accepted = refl;
   calls-kept = refl;
   calls-counts = refl;
+  calls-stand = refl;
+  reads-tables = refl;
   calls-tables = refl;
 }

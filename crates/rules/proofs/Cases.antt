@@ -29,6 +29,7 @@ cases = (
     p11 = refl;
     p11-counts = refl;
     p11-versions = refl;
+    p11-edges = refl;
     count-of-entities = refl;
     empty-file = refl;
     header-alone = refl;

@@ -6,11 +6,12 @@ use Rattle.record.specs.Layout.{kindOf}
 use Rattle.record.specs.Header.{headerChecks}
 use Rattle.record.specs.Decode.{declarationChecks, eventChecks, decodeOf, decodeFrom}
 use Rattle.record.specs.Encode.{encodeOf}
-use Rattle.rules.specs.Sound.{every, allBelow, isObject, isSubject, sourceFits, targetFits, mayFollow, soundCounts, soundEntity, soundPrevious, soundVersion, timeBefore, entityTest, versionTest, edgeTest, isSound}
+use Rattle.rules.specs.Sound.{every, allBelow, isObject, isSubject, sourceFits, targetFits, mayFollow, soundCounts, soundEntity, soundPrevious, soundVersion, timeBefore, entityTest, versionTest, edgeTest, countSum, isSound}
 use Rattle.rules.specs.Decide.{goesTo, newestTo, leaves, repeatOf, hasOutgoing, decisionOf}
 use Rattle.rules.specs.Record.{declarationRefusals, earlyRefusals, roomRefusals, eventRefusals, refusalOf, changeOf}
 use Rattle.rules.specs.Batch.{readFrom, contentsOf, takeIn, batchChecks, batchOf}
 use Rattle.rules.specs.PlainList.{put, added, addedBy}
+use Rattle.rules.specs.StandsFor.{standsFor}
 use Rattle.rules.specs.Start.{startFrom, startOf, timesInto, intakeOf}
 use Rattle.rules.specs.Marks.{follow, pass, passes, seeded, closed, hasMarked, marksBelow, ones}
 use Rattle.rules.specs.Backward.{isFollowed, edgesBack, stepsBack, backwardArcs, backwardWork, backwardEntities, traceChecks, backwardOf}
@@ -21,5 +22,5 @@ use Rattle.rules.specs.Worked.{batch, backward, forward, log}
 use Rattle.rules.specs.RecordCases.{grown, grownThenDeclared}
 
 unfoldable pub computed : Type 0
-unfolding firstOf entityAt versionAt edgeAt putEntity putVersion putEdge entityCapacity versionCapacity edgeCapacity kindOf headerChecks declarationChecks eventChecks decodeOf decodeFrom encodeOf every allBelow isObject isSubject sourceFits targetFits mayFollow soundCounts soundEntity soundPrevious soundVersion timeBefore entityTest versionTest edgeTest isSound goesTo newestTo leaves repeatOf hasOutgoing decisionOf declarationRefusals earlyRefusals roomRefusals eventRefusals refusalOf changeOf readFrom contentsOf takeIn batchChecks batchOf startFrom startOf timesInto intakeOf follow pass passes seeded closed hasMarked marksBelow ones isFollowed edgesBack stepsBack backwardArcs backwardWork backwardEntities traceChecks backwardOf edgesOn stepsOn forwardArcs forwardWork forwardEntities forwardIntake forwardOf encodedBelow logBytes logChecks keptLogOf decimalIn spaced edgeLines recordNo refusedLine listingOf put added addedBy batch backward forward log grown grownThenDeclared
+unfolding firstOf entityAt versionAt edgeAt putEntity putVersion putEdge entityCapacity versionCapacity edgeCapacity kindOf headerChecks declarationChecks eventChecks decodeOf decodeFrom encodeOf every allBelow isObject isSubject sourceFits targetFits mayFollow soundCounts soundEntity soundPrevious soundVersion timeBefore entityTest versionTest edgeTest countSum isSound goesTo newestTo leaves repeatOf hasOutgoing decisionOf declarationRefusals earlyRefusals roomRefusals eventRefusals refusalOf changeOf readFrom contentsOf takeIn batchChecks batchOf startFrom startOf timesInto intakeOf follow pass passes seeded closed hasMarked marksBelow ones isFollowed edgesBack stepsBack backwardArcs backwardWork backwardEntities traceChecks backwardOf edgesOn stepsOn forwardArcs forwardWork forwardEntities forwardIntake forwardOf encodedBelow logBytes logChecks keptLogOf decimalIn spaced edgeLines recordNo refusedLine listingOf put added addedBy standsFor batch backward forward log grown grownThenDeclared
 computed = Unit {0}

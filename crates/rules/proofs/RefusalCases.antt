@@ -19,6 +19,7 @@ refusalCases = record {
   accepted-repeated = refl;
   millionth-kept = refl;
   millionth-repeated = refl;
+  millionth-counted = refl;
   no-entity-row = refl;
   no-version-row = refl;
   no-new-version = refl;
@@ -31,5 +32,6 @@ refusalCases = record {
   full-load = refl;
   unsound-left = refl;
   header-left = refl;
+  repeat-left = refl;
   record-left = refl;
 }

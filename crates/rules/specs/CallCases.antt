@@ -4,13 +4,14 @@ use Prim.Native.Nat.{ℕ}
 use mathlib.Core.Path.{_≡_}
 use mathlib.Core.List.{List, [], _∷_, _++_, map}
 use lib.ListN.{length, set}
-use Rattle.rows.specs.Rows.{entityRow, versionRow, edgeRow, entityNo}
+use Rattle.rows.specs.Rows.{entityRow, versionRow, edgeRow, entityNo, putEdge}
 use Rattle.record.specs.declared.Event.{Event}
 use Rattle.record.specs.declared.Record.{Record}
 use Rattle.record.specs.declared.Record.the-variants as records
-use Rattle.rules.specs.Trail.{Tables, capacityOf, counts, none}
+use Rattle.rules.specs.Trail.{Tables, tables, capacityOf, counts, none}
 use Rattle.rules.specs.History.{accepted, keptEvents, since, intakeTime}
 use Rattle.rules.specs.PlainList.{worked, itemsOf, addedBy}
+use Rattle.rules.specs.StandsFor.{standsFor, lastTime}
 use Rattle.rules.specs.Calls.{Call, batch, backward, forward, heldAfter, plainAfter}
 use Rattle.rules.specs.Worked.{header, file, room, batch as workedBatch}
 use Rattle.rules.specs.Order.{declare, event}
@@ -22,12 +23,26 @@ plain n = addedBy (capacityOf (room n)) [] (file 1)
 abbrev pub timesOf : List Event → List ℕ
 timesOf es = map (λ e. e .time) es
 
--- the worked file, a backward trace, two reads of which the second is not later, a forward trace: the last call stands first
+-- what the worked file leaves, and the same with its first edge repeated at 8
 abbrev pub lent : Tables
 lent = workedBatch 8 .tables
 
+abbrev pub lentThen : Tables
+lentThen = tables (lent .entities) (lent .versions) (putEdge (lent .edges) 0 (edgeRow 0 1 1 1 3 8))
+
+-- the worked file, a backward trace, two reads of which the second is not later, a forward trace: the last call stands first
+abbrev pub reads : List Call
+reads = batch lent (header ++ (event 1 0 1 8 ++ event 1 0 1 8)) ∷ backward lent 2 6 [] [] ∷ batch (room 8) (file 1) ∷ []
+
 abbrev pub calls : List Call
-calls = forward lent 1 4 [] [] ∷ batch lent (header ++ (event 1 0 1 8 ++ event 1 0 1 8)) ∷ backward lent 2 6 [] [] ∷ batch (room 8) (file 1) ∷ []
+calls = forward lentThen 1 4 [] [] ∷ reads
+
+-- two execves, and a read that repeats both
+abbrev pub execves : List Record
+execves = addedBy (capacityOf (room 8)) [] (header ++ (declare 0 0 ++ (declare 1 1 ++ (event 5 0 1 1 ++ (event 5 0 1 2 ++ event 1 0 1 3)))))
+
+abbrev pub standTimes : List Record → List ℕ → List (List ℕ)
+standTimes rs ks = map (λ k. timesOf (standsFor rs k)) ks
 
 pub record CallCases : Type 0 where
   pub all-added : length (plain 8) ≡ 11
@@ -51,9 +66,16 @@ pub record CallCases : Type 0 where
   pub worked-counts : worked (plain 8) .counts ≡ counts 4 5 4 7 7
   pub worked-entities : map (worked (plain 8) .entity) (0 ∷ 1 ∷ 2 ∷ 3 ∷ []) ≡ entityRow 0 0 ∷ entityRow 1 4 ∷ entityRow 0 2 ∷ entityRow 0 3 ∷ []
   pub worked-versions : map (worked (plain 8) .version) (0 ∷ 1 ∷ 2 ∷ 3 ∷ 4 ∷ []) ≡ versionRow 0 0 0 none ∷ versionRow 1 0 1 none ∷ versionRow 2 0 6 none ∷ versionRow 3 0 0 none ∷ versionRow 1 5 5 1 ∷ []
-  pub worked-edges : map (worked (plain 8) .edge) (0 ∷ 1 ∷ 2 ∷ 3 ∷ []) ≡ edgeRow 0 1 1 1 ∷ edgeRow 1 2 2 2 ∷ edgeRow 3 4 1 5 ∷ edgeRow 4 2 2 6 ∷ []
+  pub worked-edges : map (worked (plain 8) .edge) (0 ∷ 1 ∷ 2 ∷ 3 ∷ [])
+      ≡ edgeRow 0 1 1 1 2 3 ∷ edgeRow 1 2 2 2 2 4 ∷ edgeRow 3 4 1 5 2 7 ∷ edgeRow 4 2 2 6 1 6 ∷ []
+  -- document 02, 2.1: the events that each edge stands for, the last first; there is no edge 4
+  pub stand-times : standTimes (plain 8) (0 ∷ 1 ∷ 2 ∷ 3 ∷ 4 ∷ []) ≡ (3 ∷ 1 ∷ []) ∷ (4 ∷ 2 ∷ []) ∷ (7 ∷ 5 ∷ []) ∷ (6 ∷ []) ∷ [] ∷ []
+  pub stand-for-newest : standTimes execves (0 ∷ 1 ∷ 2 ∷ []) ≡ (1 ∷ []) ∷ (3 ∷ 2 ∷ []) ∷ [] ∷ []
+  pub last-times : map (λ k. lastTime (standsFor (plain 8) k)) (0 ∷ 1 ∷ 2 ∷ 3 ∷ 4 ∷ []) ≡ 3 ∷ 4 ∷ 7 ∷ 6 ∷ 0 ∷ []
   -- "A batch adds .. the records of its file that this document's rules and refusals take in ..; a trace adds nothing."
   pub calls-accepted : timesOf (accepted (itemsOf (plainAfter calls))) ≡ 8 ∷ 7 ∷ 6 ∷ 5 ∷ 4 ∷ 3 ∷ 2 ∷ 1 ∷ []
   pub calls-kept : timesOf (keptEvents (itemsOf (plainAfter calls))) ≡ 6 ∷ 5 ∷ 2 ∷ 1 ∷ []
   pub calls-counts : heldAfter calls .counts ≡ counts 4 5 4 8 8
-  pub calls-tables : heldAfter calls .tables ≡ lent
+  pub calls-stand : standTimes (plainAfter calls) (0 ∷ 1 ∷ 2 ∷ 3 ∷ []) ≡ (8 ∷ 3 ∷ 1 ∷ []) ∷ (4 ∷ 2 ∷ []) ∷ (7 ∷ 5 ∷ []) ∷ (6 ∷ []) ∷ []
+  pub reads-tables : heldAfter reads .tables ≡ lentThen
+  pub calls-tables : heldAfter calls .tables ≡ lentThen

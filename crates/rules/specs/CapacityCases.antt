@@ -36,12 +36,12 @@ pub record CapacityCases : Type 0 where
   -- a part of a row at the end of a table is no row
   pub whole-entity-rows : map (λ n. entityCapacity (replicate n 0)) (0 ∷ 1 ∷ 2 ∷ 3 ∷ 4 ∷ []) ≡ 0 ∷ 0 ∷ 1 ∷ 1 ∷ 2 ∷ []
   pub whole-version-rows : map (λ n. versionCapacity (replicate n 0)) (0 ∷ 3 ∷ 4 ∷ 7 ∷ 8 ∷ []) ≡ 0 ∷ 0 ∷ 1 ∷ 1 ∷ 2 ∷ []
-  pub whole-edge-rows : map (λ n. edgeCapacity (replicate n 0)) (0 ∷ 3 ∷ 4 ∷ 7 ∷ 8 ∷ []) ≡ 0 ∷ 0 ∷ 1 ∷ 1 ∷ 2 ∷ []
-  pub each-table : capacityOf (tables (replicate 4 0) (replicate 12 0) (replicate 20 0)) ≡ record { entities = 2; versions = 3; edges = 5 }
+  pub whole-edge-rows : map (λ n. edgeCapacity (replicate n 0)) (0 ∷ 5 ∷ 6 ∷ 11 ∷ 12 ∷ []) ≡ 0 ∷ 0 ∷ 1 ∷ 1 ∷ 2 ∷ []
+  pub each-table : capacityOf (tables (replicate 4 0) (replicate 12 0) (replicate 30 0)) ≡ record { entities = 2; versions = 3; edges = 5 }
   -- past its end a table reads as 0
   pub past-end-entity : entityAt [] 0 ≡ entityRow 0 0
   pub past-end-version : versionAt [] 0 ≡ versionRow 0 0 0 0
-  pub past-end-edge : edgeAt [] 0 ≡ edgeRow 0 0 0 0
+  pub past-end-edge : edgeAt [] 0 ≡ edgeRow 0 0 0 0 0 0
   -- tables of one number less than the most rows, of just those, and of one row more
   pub entities-below : entityCapacity (replicate 8191 0) ≡ 4095
   pub entities-most : entityCapacity (replicate 8192 0) ≡ 4096
@@ -49,9 +49,9 @@ pub record CapacityCases : Type 0 where
   pub versions-below : versionCapacity (replicate 262143 0) ≡ 65535
   pub versions-most : versionCapacity (replicate 262144 0) ≡ 65536
   pub versions-above : versionCapacity (replicate 262148 0) ≡ 65536
-  pub edges-below : edgeCapacity (replicate 1048575 0) ≡ 262143
-  pub edges-most : edgeCapacity (replicate 1048576 0) ≡ 262144
-  pub edges-above : edgeCapacity (replicate 1048580 0) ≡ 262144
+  pub edges-below : edgeCapacity (replicate 1572863 0) ≡ 262143
+  pub edges-most : edgeCapacity (replicate 1572864 0) ≡ 262144
+  pub edges-above : edgeCapacity (replicate 1572870 0) ≡ 262144
   -- the largest tables, one row left and none
   pub last-entity : map (λ e. declarationAt e 65535) (4095 ∷ 4096 ∷ []) ≡ 0 ∷ 10 ∷ []
   pub last-version : map (declarationAt 4095) (65535 ∷ 65536 ∷ []) ≡ 0 ∷ 11 ∷ []

@@ -10,6 +10,7 @@ pub mod Batch
 pub mod Paths
 pub mod History
 pub mod PlainList
+pub mod StandsFor
 pub mod Calls
 -- "Traces": the traces, as relations and as computed; the kept log
 pub mod Start

@@ -33,7 +33,7 @@ soundEvents = event 1 0 1 2 ++ (event 2 1 0 4 ++ (event 3 0 1 5 ++ (event 4 1 2 
 
 -- object 0 was read by subject 1 at a time of four bytes
 abbrev pub lateLog : KeptLog
-lateLog = keptLogOf (counts 2 2 1 1 67305985) (tables (full .entities) (full .versions) (0 ∷ 1 ∷ 1 ∷ 67305985 ∷ [])) (replicate 44 9)
+lateLog = keptLogOf (counts 2 2 1 1 67305985) (tables (full .entities) (full .versions) (0 ∷ 1 ∷ 1 ∷ 67305985 ∷ 1 ∷ 67305985 ∷ [])) (replicate 44 9)
 
 pub record LogCases : Type 0 where
   pub fresh-exact : freshLog 8 ≡ logOf header 8

@@ -22,16 +22,19 @@ declare n s = 0 ∷ s ∷ n ∷ 0 ∷ 0 ∷ 0 ∷ 0 ∷ 0 ∷ 0 ∷ 0 ∷ 0 ∷ 
 abbrev pub event : ℕ → ℕ → ℕ → ℕ → List ℕ
 event k u v t = k ∷ 0 ∷ u ∷ 0 ∷ v ∷ 0 ∷ 0 ∷ 0 ∷ t ∷ 0 ∷ 0 ∷ 0 ∷ []
 
--- object 0 was read by subject 1 at time 5; the tables hold no row more
+-- object 0 was read by subject 1 at 5, and the edge stands for all that was accepted; the tables hold no row more
 abbrev pub used : ℕ → Counts
 used accepted = counts 2 2 1 accepted 5
 
+abbrev pub fullOf : ℕ → Tables
+fullOf accepted = tables (0 ∷ 0 ∷ 1 ∷ 1 ∷ []) (0 ∷ 0 ∷ 0 ∷ none ∷ 1 ∷ 0 ∷ 5 ∷ none ∷ []) (0 ∷ 1 ∷ 1 ∷ 5 ∷ accepted ∷ 5 ∷ [])
+
 abbrev pub full : Tables
-full = tables (0 ∷ 0 ∷ 1 ∷ 1 ∷ []) (0 ∷ 0 ∷ 0 ∷ none ∷ 1 ∷ 0 ∷ 5 ∷ none ∷ []) (0 ∷ 1 ∷ 1 ∷ 5 ∷ [])
+full = fullOf 1
 
 -- the same with a version of an entity that does not exist
 abbrev pub unsound : Tables
-unsound = tables (0 ∷ 0 ∷ 1 ∷ 1 ∷ []) (9 ∷ 0 ∷ 0 ∷ none ∷ 1 ∷ 0 ∷ 5 ∷ none ∷ []) (0 ∷ 1 ∷ 1 ∷ 5 ∷ [])
+unsound = tables (full .entities) (9 ∷ 0 ∷ 0 ∷ none ∷ 1 ∷ 0 ∷ 5 ∷ none ∷ []) (full .edges)
 
 -- no entity row; no version row
 abbrev pub noRows : Tables
@@ -64,12 +67,12 @@ pub record OrderOfRefusals : Type 0 where
   pub r7-8 : Refuses (used 1) full (event 1 1 1 9) SourceIsTarget 0
   pub r8-9 : Refuses (used 1) full (event 1 1 0 5) WrongSort 0
   pub r8-target : Refuses (used 1) full (event 4 1 0 5) WrongSort 0
-  pub r9-13 : Refuses (used mostAccepted) full (event 2 1 0 5) NotLater 0
-  pub r13-12 : Refuses (used mostAccepted) full (event 2 1 0 6) AcceptedFull 0
+  pub r9-13 : Refuses (used mostAccepted) (fullOf mostAccepted) (event 2 1 0 5) NotLater 0
+  pub r13-12 : Refuses (used mostAccepted) (fullOf mostAccepted) (event 2 1 0 6) AcceptedFull 0
   -- a repeat, too
-  pub r13-repeat : Refuses (used mostAccepted) full (event 1 0 1 6) AcceptedFull 0
+  pub r13-repeat : Refuses (used mostAccepted) (fullOf mostAccepted) (event 1 0 1 6) AcceptedFull 0
   pub r12-11 : Refuses (used 1) full (event 2 1 0 6) EdgesFull 0
-  pub r11-event : Refuses (used 1) (tables (full .entities) (full .versions) (full .edges ++ replicate 4 0)) (event 2 1 0 6) VersionsFull 0
+  pub r11-event : Refuses (used 1) (tables (full .entities) (full .versions) (full .edges ++ replicate 6 0)) (event 2 1 0 6) VersionsFull 0
   -- kind 5 is no repeat, and wants an edge row
   pub r12-execve : Refuses (used 1) full (event 5 0 1 6) EdgesFull 0
   -- "A trace checks 16, 5, 14."

@@ -1,6 +1,6 @@
 -- Document 01, "Refused because ..": the numbers, and each refusal of a record just given and just not. The proof is in
 -- proofs/RefusalCases.antt.
-use Prim.Native.Nat.{ℕ}
+use Prim.Native.Nat.{ℕ, _-_}
 use mathlib.Core.Path.{_≡_}
 use mathlib.Core.List.{List, [], _∷_, _++_, map}
 use lib.ListN.{replicate}
@@ -8,11 +8,11 @@ use Rattle.refusals.specs.declared.Refusal.{Refusal}
 use Rattle.refusals.specs.declared.Refusal.the-variants.{NotEventFile, WrongVersion, CutShort, BadField, Undeclared, NotNext, SourceIsTarget, WrongSort, NotLater, EntitiesFull, VersionsFull, EdgesFull, AcceptedFull, BufferShort, OutputShort, Unsound}
 use Rattle.refusals.specs.Refusals.{refusalNo}
 use Rattle.rows.specs.declared.Counts.{Counts}
-use Rattle.rules.specs.Trail.{Tables, tables, counts}
+use Rattle.rules.specs.Trail.{Tables, tables, counts, mostAccepted}
 use Rattle.rules.specs.Batch.{Batched, batchOf}
 use Rattle.rules.specs.Worked.{header, answer, file}
-use Rattle.rules.specs.Order.{declare, event, used, full, unsound}
-use Rattle.rules.specs.SoundCases.{entityRows, versionRows, edgeRows, soundRows, versionsUsed}
+use Rattle.rules.specs.Order.{declare, event, used, fullOf, full, unsound}
+use Rattle.rules.specs.SoundCases.{entityRows, versionRows, edgeRowsOf, soundRows, versionsUsed}
 
 -- "Refused because of the input", "Refused because of the state"
 abbrev pub refusals : List Refusal
@@ -21,26 +21,29 @@ refusals =
     ∷ EntitiesFull ∷ VersionsFull ∷ EdgesFull ∷ AcceptedFull ∷ BufferShort ∷ OutputShort ∷ Unsound
     ∷ []
 
--- the sound rows of SoundCases, in tables with e, v and d numbers more
+-- the sound rows of SoundCases, in tables with e, v and d numbers more; with n events accepted
+abbrev pub longerOf : ℕ → ℕ → ℕ → ℕ → Tables
+longerOf n e v d = tables (entityRows ++ replicate e 7) (versionRows ++ replicate v 7) (edgeRowsOf (n - 4) ++ replicate d 7)
+
 abbrev pub longer : ℕ → ℕ → ℕ → Tables
-longer e v d = tables (entityRows ++ replicate e 7) (versionRows ++ replicate v 7) (edgeRows ++ replicate d 7)
+longer e v d = longerOf 7 e v d
 
 abbrev pub refusalIn : Counts → Tables → List ℕ → ℕ
 refusalIn c t bytes = batchOf c t (header ++ bytes) .answer .refusal
 
 -- the refusal of a declaration of entity n, and of an event, where there is room for each row
 abbrev pub declareRefusal : ℕ → ℕ
-declareRefusal n = refusalIn (versionsUsed 5) (longer 2 4 4) (declare n 0)
+declareRefusal n = refusalIn (versionsUsed 5) (longer 2 4 6) (declare n 0)
 
 abbrev pub eventRefusal : ℕ → ℕ → ℕ → ℕ → ℕ
-eventRefusal k u v t = refusalIn (versionsUsed 5) (longer 2 4 4) (event k u v t)
+eventRefusal k u v t = refusalIn (versionsUsed 5) (longer 2 4 6) (event k u v t)
 
 -- with n events accepted: a read that is kept, a read that repeats
 abbrev pub keptAfter : ℕ → Batched
-keptAfter n = batchOf (counts 4 5 5 n 9) (longer 2 4 4) (header ++ event 1 3 1 10)
+keptAfter n = batchOf (counts 4 5 5 n 9) (longerOf n 2 4 6) (header ++ event 1 3 1 10)
 
 abbrev pub repeatedAfter : ℕ → Batched
-repeatedAfter n = batchOf (counts 4 5 5 n 9) (longer 2 4 4) (header ++ event 1 0 1 10)
+repeatedAfter n = batchOf (counts 4 5 5 n 9) (longerOf n 2 4 6) (header ++ event 1 0 1 10)
 
 -- with e, v or d numbers past the rows in use: a declaration, a new version, a wider one
 abbrev pub declaredIn : ℕ → ℕ → ℕ
@@ -75,15 +78,18 @@ pub record RefusalCases : Type 0 where
   pub accepted-repeated : map (λ n. repeatedAfter n .answer .refusal) (999999 ∷ 1000000 ∷ []) ≡ 0 ∷ 13 ∷ []
   pub millionth-kept : keptAfter 999999 .counts ≡ counts 4 6 6 1000000 10
   pub millionth-repeated : repeatedAfter 999999 .counts ≡ counts 4 5 5 1000000 10
+  -- an edge that stands for them all
+  pub millionth-counted : batchOf (used 999999) (fullOf 999999) (header ++ event 1 0 1 6)
+      ≡ record { answer = answer 0 1; counts = counts 2 2 1 1000000 6; tables = tables (full .entities) (full .versions) (0 ∷ 1 ∷ 1 ∷ 5 ∷ 1000000 ∷ 6 ∷ []) }
   -- "10. No entity row left.": a row has 2 numbers
   pub no-entity-row : map (λ e. declaredIn e 4) (0 ∷ 1 ∷ 2 ∷ 3 ∷ []) ≡ 10 ∷ 10 ∷ 0 ∷ 0 ∷ []
   -- "11. No version row left where one is to be made.": a row has 4 numbers
   pub no-version-row : map (declaredIn 2) (0 ∷ 3 ∷ 4 ∷ []) ≡ 11 ∷ 11 ∷ 0 ∷ []
-  pub no-new-version : map (λ v. renewedIn v 4) (0 ∷ 3 ∷ 4 ∷ []) ≡ 11 ∷ 11 ∷ 0 ∷ []
-  pub none-to-be-made : map (λ v. widenedIn v 4) (0 ∷ 3 ∷ 4 ∷ []) ≡ 0 ∷ 0 ∷ 0 ∷ []
-  -- "12. No edge row left where one is to be kept.": a row has 4 numbers
-  pub no-edge-row : map (widenedIn 0) (0 ∷ 3 ∷ 4 ∷ []) ≡ 12 ∷ 12 ∷ 0 ∷ []
-  pub no-edge-row-renewed : map (renewedIn 4) (0 ∷ 3 ∷ 4 ∷ []) ≡ 12 ∷ 12 ∷ 0 ∷ []
+  pub no-new-version : map (λ v. renewedIn v 6) (0 ∷ 3 ∷ 4 ∷ []) ≡ 11 ∷ 11 ∷ 0 ∷ []
+  pub none-to-be-made : map (λ v. widenedIn v 6) (0 ∷ 3 ∷ 4 ∷ []) ≡ 0 ∷ 0 ∷ 0 ∷ []
+  -- "12. No edge row left where one is to be kept.": a row has 6 numbers
+  pub no-edge-row : map (widenedIn 0) (0 ∷ 5 ∷ 6 ∷ []) ≡ 12 ∷ 12 ∷ 0 ∷ []
+  pub no-edge-row-renewed : map (renewedIn 4) (0 ∷ 5 ∷ 6 ∷ []) ≡ 12 ∷ 12 ∷ 0 ∷ []
   -- a read and a load repeat what an edge gave, and want no row; an execve, a fork and a first write want one
   pub full-from-object : map (fullRefusal 0 1) (1 ∷ 3 ∷ 5 ∷ []) ≡ 0 ∷ 0 ∷ 12 ∷ []
   pub full-fork : fullRefusal 1 2 4 ≡ 12
@@ -93,4 +99,6 @@ pub record RefusalCases : Type 0 where
   -- a refused batch leaves the counts and the tables
   pub unsound-left : batchOf (used 1) unsound (file 1) ≡ record { answer = answer 16 0; counts = used 1; tables = unsound }
   pub header-left : batchOf (used 1) full [] ≡ record { answer = answer 1 0; counts = used 1; tables = full }
+  pub repeat-left : batchOf (used mostAccepted) (fullOf mostAccepted) (header ++ event 1 0 1 6)
+      ≡ record { answer = answer 13 0; counts = used mostAccepted; tables = fullOf mostAccepted }
   pub record-left : batchOf (used 1) full (header ++ event 2 1 0 6) ≡ record { answer = answer 12 0; counts = used 1; tables = full }

@@ -1,15 +1,15 @@
--- Document 01, "Tables": sound tables, each clause just met and just missed. The proof is in proofs/SoundCases.antt.
-use Prim.Native.Nat.{ℕ}
+-- Document 01, "Tables", and document 02, 2.1: sound tables, each clause just met and just missed. The proof is in proofs/SoundCases.antt.
+use Prim.Native.Nat.{ℕ, _-_}
 use mathlib.Core.Path.{_≡_}
 use mathlib.Core.Bool.{Bool, true, false}
 use mathlib.Core.List.{List, [], _∷_, _++_, map}
 use lib.ListN.{replicate}
 use Rattle.rows.specs.declared.Counts.{Counts}
-use Rattle.rows.specs.Rows.{entityRow, versionRow, edgeRow, putEntity, putVersion, putEdge}
+use Rattle.rows.specs.Rows.{entityRow, versionRow, edgeRow, recounted, edgeAt, putEntity, putVersion, putEdge}
 use Rattle.rules.specs.Trail.{Tables, tables, capacityOf, trailOf, counts, freshCounts, none}
 use Rattle.rules.specs.Sound.{isSound}
 
--- object 0, subjects 1 and 2, object 3; version 3 is subject 1's second; an edge of each kind
+-- object 0, subjects 1 and 2, object 3; version 3 is subject 1's second; an edge of each kind, the first of which stands for n events
 abbrev pub entityRows : List ℕ
 entityRows = 0 ∷ 0 ∷ 1 ∷ 3 ∷ 1 ∷ 2 ∷ 0 ∷ 4 ∷ []
 
@@ -22,14 +22,17 @@ versionRows =
     ∷ 3 ∷ 0 ∷ 0 ∷ none
     ∷ []
 
-abbrev pub edgeRows : List ℕ
-edgeRows =
-    0 ∷ 1 ∷ 1 ∷ 2
-    ∷ 1 ∷ 0 ∷ 2 ∷ 4
-    ∷ 0 ∷ 3 ∷ 3 ∷ 5
-    ∷ 3 ∷ 2 ∷ 4 ∷ 8
-    ∷ 0 ∷ 3 ∷ 5 ∷ 9
+abbrev pub edgeRowsOf : ℕ → List ℕ
+edgeRowsOf n =
+    0 ∷ 1 ∷ 1 ∷ 2 ∷ n ∷ 7
+    ∷ 1 ∷ 0 ∷ 2 ∷ 4 ∷ 1 ∷ 4
+    ∷ 0 ∷ 3 ∷ 3 ∷ 5 ∷ 1 ∷ 5
+    ∷ 3 ∷ 2 ∷ 4 ∷ 8 ∷ 1 ∷ 8
+    ∷ 0 ∷ 3 ∷ 5 ∷ 9 ∷ 1 ∷ 9
     ∷ []
+
+abbrev pub edgeRows : List ℕ
+edgeRows = edgeRowsOf 3
 
 abbrev pub soundRows : Tables
 soundRows = tables entityRows versionRows edgeRows
@@ -46,9 +49,9 @@ abbrev pub soundIn : ℕ → ℕ → ℕ → Bool
 soundIn e v d = isSound (record { entities = e; versions = v; edges = d }) (trailOf (versionsUsed 5) soundRows)
 
 abbrev pub acceptedIs : ℕ → Bool
-acceptedIs n = soundWith (counts 4 5 5 n 9) soundRows
+acceptedIs n = soundWith (counts 4 5 5 n 9) (tables entityRows versionRows (edgeRowsOf (n - 4)))
 
--- with another row k of the entities, of the versions, of the edges
+-- with another row k of the entities, of the versions, of the edges, whose last time is then 9
 abbrev pub entityIs : ℕ → ℕ → ℕ → Bool
 entityIs k s l = soundWith (versionsUsed 5) (tables (putEntity entityRows k (entityRow s l)) versionRows edgeRows)
 
@@ -56,7 +59,18 @@ abbrev pub versionIs : ℕ → ℕ → ℕ → ℕ → ℕ → Bool
 versionIs k x s t p = soundWith (versionsUsed 5) (tables entityRows (putVersion versionRows k (versionRow x s t p)) edgeRows)
 
 abbrev pub edgeIs : ℕ → ℕ → ℕ → ℕ → ℕ → Bool
-edgeIs k f o n t = soundWith (versionsUsed 5) (tables entityRows versionRows (putEdge edgeRows k (edgeRow f o n t)))
+edgeIs k f o n t = soundWith (versionsUsed 5) (tables entityRows versionRows (putEdge edgeRows k (edgeRow f o n t (edgeAt edgeRows k .count) 9)))
+
+-- with another last time of edge k; with counts m and n of the first edge and of edge k
+abbrev pub lastIs : ℕ → ℕ → Bool
+lastIs k t = soundWith (versionsUsed 5) (tables entityRows versionRows (putEdge edgeRows k (recounted (edgeAt edgeRows k) (edgeAt edgeRows k .count) t)))
+
+abbrev pub countsAre : ℕ → ℕ → ℕ → Bool
+countsAre k m n = soundWith (versionsUsed 5) (tables entityRows versionRows (putEdge (edgeRowsOf m) k (recounted (edgeAt edgeRows k) n 9)))
+
+-- with no edge and n events accepted
+abbrev pub noEdge : ℕ → Bool
+noEdge n = soundWith (counts 4 5 0 n 9) soundRows
 
 -- with a sixth version row, in use when n is 6: named by no row, as the latest of entity 3, and by the first edge
 abbrev pub sixVersions : ℕ → ℕ → ℕ → ℕ → List ℕ
@@ -69,10 +83,10 @@ abbrev pub sixthIsLatest : ℕ → Bool
 sixthIsLatest n = soundWith (versionsUsed n) (tables (putEntity entityRows 3 (entityRow 0 5)) (sixVersions 3 0 0 none) edgeRows)
 
 abbrev pub sixthIsFrom : ℕ → Bool
-sixthIsFrom n = soundWith (versionsUsed n) (tables entityRows (sixVersions 0 0 0 none) (putEdge edgeRows 0 (edgeRow 5 1 1 2)))
+sixthIsFrom n = soundWith (versionsUsed n) (tables entityRows (sixVersions 0 0 0 none) (putEdge edgeRows 0 (edgeRow 5 1 1 2 3 7)))
 
 abbrev pub sixthIsTo : ℕ → Bool
-sixthIsTo n = soundWith (versionsUsed n) (tables entityRows (sixVersions 2 0 0 none) (putEdge edgeRows 0 (edgeRow 0 5 1 2)))
+sixthIsTo n = soundWith (versionsUsed n) (tables entityRows (sixVersions 2 0 0 none) (putEdge edgeRows 0 (edgeRow 0 5 1 2 3 7)))
 
 -- versions 1 and 5 are of entity 1 and start at 0; version 3 has one of them as its previous
 abbrev pub previousIs : ℕ → Bool
@@ -120,6 +134,23 @@ pub record SoundCases : Type 0 where
   pub first-time : map (edgeIs 0 0 1 1) (0 ∷ 1 ∷ 3 ∷ 4 ∷ []) ≡ false ∷ true ∷ true ∷ false ∷ []
   pub middle-time : map (edgeIs 2 0 3 3) (4 ∷ 5 ∷ 7 ∷ 8 ∷ []) ≡ false ∷ true ∷ true ∷ false ∷ []
   pub last-time : map (edgeIs 4 0 3 5) (8 ∷ 9 ∷ 10 ∷ []) ≡ false ∷ true ∷ false ∷ []
+  -- document 02, 2.1: "a count is at least 1"; the count of another edge makes up for it
+  pub count-of-first : map (λ m. countsAre 1 m (4 - m)) (0 ∷ 1 ∷ 3 ∷ []) ≡ false ∷ true ∷ true ∷ []
+  pub count-of-none : map (λ k. countsAre k 4 0) (1 ∷ 2 ∷ 3 ∷ 4 ∷ []) ≡ replicate 4 false
+  pub count-of-three : map (λ k. countsAre k 1 3) (1 ∷ 2 ∷ 3 ∷ 4 ∷ []) ≡ replicate 4 true
+  -- "the last time lies between the edge's time and the trail's", of an edge of each kind; no edge need have the trail's
+  pub last-of-read : map (lastIs 0) (1 ∷ 2 ∷ 9 ∷ 10 ∷ []) ≡ false ∷ true ∷ true ∷ false ∷ []
+  pub last-of-write : map (lastIs 1) (3 ∷ 4 ∷ 9 ∷ 10 ∷ []) ≡ false ∷ true ∷ true ∷ false ∷ []
+  pub last-of-load : map (lastIs 2) (4 ∷ 5 ∷ 9 ∷ 10 ∷ []) ≡ false ∷ true ∷ true ∷ false ∷ []
+  pub last-of-fork : map (lastIs 3) (7 ∷ 8 ∷ 9 ∷ 10 ∷ []) ≡ false ∷ true ∷ true ∷ false ∷ []
+  pub last-of-execve : map (lastIs 4) (8 ∷ 9 ∷ 10 ∷ []) ≡ false ∷ true ∷ false ∷ []
+  pub last-of-none : soundWith (counts 4 5 5 7 10) soundRows ≡ true
+  -- "and the counts sum to accepted", and not only modulo 2^32 or 2^64
+  pub sum-with-first : map (λ m. countsAre 1 m 1) (2 ∷ 3 ∷ 4 ∷ []) ≡ false ∷ true ∷ false ∷ []
+  pub sum-with-last : map (countsAre 4 3) (1 ∷ 2 ∷ []) ≡ true ∷ false ∷ []
+  pub sum-past-32-bits : map (countsAre 1 4294967295) (4 ∷ 5 ∷ 6 ∷ []) ≡ replicate 3 false
+  pub sum-past-64-bits : countsAre 1 18446744073709551619 1 ≡ false
+  pub sum-of-none : map noEdge (0 ∷ 1 ∷ []) ≡ true ∷ false ∷ []
   -- rows past the counts are not looked at; "All five zero is a fresh trail, whatever the tables hold."
-  pub rows-past : soundWith (versionsUsed 5) (tables (entityRows ++ (7 ∷ 7 ∷ [])) (sixVersions 7 7 7 7) (edgeRows ++ (7 ∷ 7 ∷ 7 ∷ 7 ∷ []))) ≡ true
-  pub fresh-trail : soundWith freshCounts (tables (7 ∷ 7 ∷ []) (7 ∷ 7 ∷ 7 ∷ 7 ∷ []) (7 ∷ 7 ∷ 7 ∷ 7 ∷ [])) ≡ true
+  pub rows-past : soundWith (versionsUsed 5) (tables (entityRows ++ (7 ∷ 7 ∷ [])) (sixVersions 7 7 7 7) (edgeRows ++ replicate 6 7)) ≡ true
+  pub fresh-trail : soundWith freshCounts (tables (replicate 2 7) (replicate 4 7) (replicate 6 7)) ≡ true

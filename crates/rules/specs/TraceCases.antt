@@ -9,6 +9,7 @@ use Rattle.rules.specs.Batch.{Batched}
 use Rattle.rules.specs.Start.{greatestOr}
 use Rattle.rules.specs.Backward.{BackwardTrace, backwardOf}
 use Rattle.rules.specs.Forward.{ForwardTrace, forwardOf}
+use Rattle.rules.specs.Worked.{backward, forward, BackwardIs}
 use Rattle.rules.specs.Order.{declare, event, used, full, unsound}
 use Rattle.rules.specs.SoundCases.{entityRows, edgeRows, sixVersions, versionsUsed}
 use Rattle.rules.specs.FileCases.{takenIn}
@@ -41,7 +42,7 @@ intakeIn u t = forwardIn 7 4 u t .answer .intake
 abbrev pub widenedLater : ℕ → BackwardTrace
 widenedLater t =
     backwardOf (counts 3 3 2 2 3)
-    (tables (0 ∷ 0 ∷ 1 ∷ 1 ∷ 0 ∷ 2 ∷ []) (0 ∷ 0 ∷ 0 ∷ none ∷ 1 ∷ 0 ∷ 3 ∷ none ∷ 2 ∷ 0 ∷ 2 ∷ none ∷ []) (1 ∷ 2 ∷ 2 ∷ 2 ∷ 0 ∷ 1 ∷ 1 ∷ 3 ∷ []))
+    (tables (0 ∷ 0 ∷ 1 ∷ 1 ∷ 0 ∷ 2 ∷ []) (0 ∷ 0 ∷ 0 ∷ none ∷ 1 ∷ 0 ∷ 3 ∷ none ∷ 2 ∷ 0 ∷ 2 ∷ none ∷ []) (1 ∷ 2 ∷ 2 ∷ 2 ∷ 1 ∷ 2 ∷ 0 ∷ 1 ∷ 1 ∷ 3 ∷ 1 ∷ 3 ∷ []))
     2 t (replicate 3 9) (replicate 3 9)
 
 -- sound, but grown by no file: versions 3 and 5 of subject 1 have the same previous, and 3 is its latest
@@ -122,12 +123,15 @@ pub record TraceCases : Type 0 where
   pub intake-newest : map (λ t. forksForward t .answer .intake) (0 ∷ 3 ∷ 4 ∷ []) ≡ 0 ∷ 3 ∷ 4 ∷ []
   pub intake-start : forwardOf (versionsUsed 6) notEntered 1 9 (replicate 6 9) (replicate 4 9) .answer ≡ record { refusal = 0; count = 1; intake = 6 }
   pub intake-greatest : greatestOr 7 (3 ∷ 5 ∷ 4 ∷ []) ≡ 5
+  -- by an edge's time, and not by its last time: the worked trail's edges at 1, 2 and 5 were repeated at 3, 4 and 7
+  pub intake-of-repeated : map (λ t. forward 1 t .answer .intake) (0 ∷ 1 ∷ 2 ∷ 3 ∷ 6 ∷ 7 ∷ []) ≡ 0 ∷ 1 ∷ 1 ∷ 1 ∷ 5 ∷ 5 ∷ []
+  pub backward-repeated : BackwardIs (backward 2 2) 3 (1 ∷ 1 ∷ 1 ∷ 0 ∷ [])
   -- "from every other marked version, all entering edges", those later than t too
   pub later-edge : map (λ t. widenedLater t .work) (1 ∷ 2 ∷ []) ≡ (0 ∷ 0 ∷ 1 ∷ []) ∷ (1 ∷ 1 ∷ 1 ∷ []) ∷ []
   -- an edge row that is not in use is not followed
-  pub unused-backward : backwardOf (counts 2 2 0 2 5) full 1 9 (9 ∷ 9 ∷ []) (9 ∷ 9 ∷ []) ≡ backwardTo 1 (0 ∷ 1 ∷ []) (0 ∷ 1 ∷ [])
-  pub unused-forward : forwardOf (counts 2 2 0 2 5) full 0 9 (9 ∷ 9 ∷ []) (9 ∷ 9 ∷ []) ≡ forwardTo 1 0 (1 ∷ 0 ∷ []) (1 ∷ 0 ∷ [])
-  pub unused-intake : forwardOf (counts 2 2 0 2 5) full 1 9 (9 ∷ 9 ∷ []) (9 ∷ 9 ∷ []) ≡ forwardTo 1 0 (0 ∷ 1 ∷ []) (0 ∷ 1 ∷ [])
+  pub unused-backward : backwardOf (counts 2 2 0 0 5) full 1 9 (9 ∷ 9 ∷ []) (9 ∷ 9 ∷ []) ≡ backwardTo 1 (0 ∷ 1 ∷ []) (0 ∷ 1 ∷ [])
+  pub unused-forward : forwardOf (counts 2 2 0 0 5) full 0 9 (9 ∷ 9 ∷ []) (9 ∷ 9 ∷ []) ≡ forwardTo 1 0 (1 ∷ 0 ∷ []) (1 ∷ 0 ∷ [])
+  pub unused-intake : forwardOf (counts 2 2 0 0 5) full 1 9 (9 ∷ 9 ∷ []) (9 ∷ 9 ∷ []) ≡ forwardTo 1 0 (0 ∷ 1 ∷ []) (0 ∷ 1 ∷ [])
   -- "on the chain from its latest through previous"
   pub chain-backward : map threeBackward (0 ∷ 2 ∷ 3 ∷ 5 ∷ 6 ∷ []) ≡ (1 ∷ 0 ∷ 0 ∷ []) ∷ (1 ∷ 0 ∷ 0 ∷ []) ∷ (1 ∷ 1 ∷ 0 ∷ []) ∷ (1 ∷ 1 ∷ 0 ∷ []) ∷ (1 ∷ 1 ∷ 1 ∷ []) ∷ []
   pub chain-forward : map threeForward (0 ∷ 2 ∷ 3 ∷ 5 ∷ 6 ∷ []) ≡ (1 ∷ 1 ∷ 1 ∷ []) ∷ (1 ∷ 1 ∷ 1 ∷ []) ∷ (0 ∷ 1 ∷ 1 ∷ []) ∷ (0 ∷ 1 ∷ 1 ∷ []) ∷ (0 ∷ 0 ∷ 1 ∷ []) ∷ []

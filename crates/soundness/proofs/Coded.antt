@@ -42,10 +42,10 @@ pub bits-fit : (bits : ℕ) → bitsFit bits ≡ true → (kind s t : ℕ) → k
 unfolding bitsFit
 bits-fit bits h kind s t l m n = equal-tests _ _ (all-at _ 2 (all-at _ 2 (all-at _ 6 h kind (omega arith)) s m) t n)
 
--- four tests made at once, of which a call returned the first as x
-pub every-four : (a b c d x : Bool) → x ≡ a → (((x && b) && c) && d) ≡ every (a ∷ b ∷ c ∷ d ∷ [])
+-- six tests made at once, of which a call returned the first as x
+pub every-six : (a b c d e f x : Bool) → x ≡ a → (((((x && b) && c) && d) && e) && f) ≡ every (a ∷ b ∷ c ∷ d ∷ e ∷ f ∷ [])
 unfolding every
-every-four a b c d x q = simp (q, and-assoc, and-true)
+every-six a b c d e f x q = simp (q, and-assoc, and-true)
 
 -- sound entities and versions, and the codes of the versions' entities
 module _ (T : Trail) (owners : List ℕ) (f : (x : ℕ) → x < T .counts .entities → EntityFacts T x) (g : (k : ℕ) → k < T .counts .versions → VersionFacts T k) (o : Owners T (T .counts .versions) owners) where
@@ -89,7 +89,10 @@ module _ (T : Trail) (owners : List ℕ) (f : (x : ℕ) → x < T .counts .entit
             source-fits = rw (sort-of from l) at (s 1);
             target-fits = rw (sort-of to m) at (s 2);
             time-low = omega arith;
-            time-last = leb-true _ _ (r 3);
+            time-last = let a = leb-true (T .edge k .time) _ (r 4) in let b = leb-true (T .edge k .last) _ (r 5) in omega arith;
+            count-low = leb-true _ _ (r 3);
+            last-low = leb-true _ _ (r 4);
+            last-high = leb-true _ _ (r 5);
           },
           after,
         )
@@ -107,7 +110,9 @@ module _ (T : Trail) (owners : List ℕ) (f : (x : ℕ) → x < T .counts .entit
         (hold-every (le-leb _ _ (h .kind-low) also rw (sort-of from l) (h .source-fits) also rw (sort-of to m) (h .target-fits) also done)
         also not-true-of _ (ne-eqb _ _ (λ e. h .apart (owner-of from to l m e)))
         also lt-ltb _ _ after
-        also le-leb _ _ (h .time-last)
+        also le-leb _ _ (h .count-low)
+        also le-leb _ _ (h .last-low)
+        also le-leb _ _ (h .last-high)
         also done)
         also done)
 

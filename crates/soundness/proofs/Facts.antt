@@ -5,7 +5,7 @@ use mathlib.Core.Bool.{true}
 use borrow.Author.Tests.{ltb-true, leb-true, eqb-true, eqb-false, not-true, eq-eqb, ne-eqb}
 use Rattle.rows.specs.declared.Counts.{Counts}
 use Rattle.rules.specs.Trail.{Capacity, Trail, none, ownerOf}
-use Rattle.rules.specs.Sound.{allBelow, mayFollow, timeBefore, soundCounts, soundEntity, soundPrevious, soundVersion, entityTest, versionTest, edgeTest, isSound}
+use Rattle.rules.specs.Sound.{allBelow, mayFollow, timeBefore, countSum, soundCounts, soundEntity, soundPrevious, soundVersion, entityTest, versionTest, edgeTest, isSound}
 use Rattle.soundness.specs.Facts.{CountFacts, EntityFacts, VersionFacts, EdgeFacts, RowFacts}
 use Rattle.soundness.proofs.All.{and-parts, every-at, all-at}
 use Rattle.soundness.proofs.Edges.{timeBefore-suc}
@@ -75,6 +75,9 @@ module _ (T : Trail) where
           target-fits = q 6;
           time-low = leb-true _ _ (q 7);
           time-last = leb-true _ _ (q 9);
+          count-low = leb-true _ _ (q 10);
+          last-low = leb-true _ _ (q 11);
+          last-high = leb-true _ _ (q 12);
         }
 
     pub edge-after : edgeTest T k ≡ true → timeBefore (T .edge) k < T .edge k .time
@@ -84,12 +87,14 @@ module _ (T : Trail) where
 module _ (cap : Capacity) (T : Trail) (s : isSound cap T ≡ true) where
   parts : (soundCounts cap (T .counts) ≡ true) × (allBelow (entityTest T) (T .counts .entities) ≡ true)
       × (allBelow (versionTest T) (T .counts .versions) ≡ true) × (allBelow (edgeTest T) (T .counts .edges) ≡ true)
+      × (countSum (T .edge) (T .counts .edges) ≡ T .counts .accepted)
   unfolding isSound
   parts =
-      let p = and-parts _ _ s in
+      let o = and-parts _ _ s in
+      let p = and-parts _ _ (o .0) in
       let q = and-parts _ _ (p .0) in
       let r = and-parts _ _ (q .0) in
-      (r .0, r .1, q .1, p .1)
+      (r .0, r .1, q .1, p .1, eqb-true _ _ (o .1))
 
   pub sound-counts : CountFacts cap (T .counts)
   sound-counts = counts-facts cap (T .counts) (parts .0)
@@ -100,4 +105,5 @@ module _ (cap : Capacity) (T : Trail) (s : isSound cap T ≡ true) where
     version = λ k l. version-facts T k (all-at _ _ (parts .2) k l);
     edge = λ k l. edge-facts T k (all-at _ _ (parts .3) k l);
     rises = λ k l. let h = edge-after T (suc k) (all-at _ _ (parts .3) (suc k) l) in rw timeBefore-suc at h;
+    sum = parts .4;
   }

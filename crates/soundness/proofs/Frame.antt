@@ -1,7 +1,7 @@
 -- What a batch leaves as it was lent: by induction on its records, each of which is taken in over sound tables.
 use Prim.Native.Nat.{ℕ, _+_}
 use native.Mathlib.Omega.{arith}
-use mathlib.Core.Path.{_≡_, refl, _∙_}
+use mathlib.Core.Path.{_≡_, refl, sym, _∙_, ap}
 use mathlib.Core.Logic.{inl, inr}
 use mathlib.Core.Bool.{true}
 use mathlib.Core.List.{List, [], _∷_}
@@ -9,6 +9,8 @@ use borrow.Author.Tests.{not-false}
 use Rattle.refusals.specs.declared.Checked.{Checked}
 use Rattle.refusals.specs.Refusals.{firstOf}
 use Rattle.rows.specs.declared.Counts.{Counts}
+use Rattle.rows.specs.declared.EdgeRow.{EdgeRow}
+use Rattle.rows.specs.Rows.{recounted}
 use Rattle.record.specs.declared.Record.{Record}
 use Rattle.rules.specs.Trail.{Tables, capacityOf, Trail, trailOf}
 use Rattle.rules.specs.Sound.{isSound}
@@ -21,7 +23,7 @@ use Rattle.soundness.proofs.TableStep.{step-sound}
 use Rattle.soundness.proofs.Decoded.{contents-fit}
 use Rattle.soundness.proofs.BatchStep.{ifRefused-passed}
 use Rattle.soundness.proofs.Past.{past-refl, past-trans}
-use Rattle.soundness.proofs.RowsStay.{LatestOrAdded}
+use Rattle.soundness.proofs.RowsStay.{LatestOrAdded, SameOrMore}
 use Rattle.soundness.proofs.FrameStep.{step-framed}
 
 -- Nothing taken in, and one batch after another
@@ -37,7 +39,7 @@ rows-refl T = record {
   start-same = λ k l. refl;
   end-le = λ k l. omega arith;
   previous-same = λ k l. refl;
-  edge-same = λ k l. refl;
+  edge-same-or-more = λ k l. inl refl;
 }
 
 module _ {T T1 T2 : Trail} {m n : ℕ} (g : CountsGrow (T .counts) (T1 .counts) m) (h : CountsGrow (T1 .counts) (T2 .counts) n) (p : RowsStay T T1) (q : RowsStay T1 T2) where
@@ -49,13 +51,39 @@ module _ {T T1 T2 : Trail} {m n : ℕ} (g : CountsGrow (T .counts) (T1 .counts) 
     start-same = λ k l. q .start-same k (omega arith) ∙ p .start-same k l;
     end-le = λ k l. let a = p .end-le k l in let b = q .end-le k (omega arith) in omega arith;
     previous-same = λ k l. q .previous-same k (omega arith) ∙ p .previous-same k l;
-    edge-same = λ k l. q .edge-same k (omega arith) ∙ p .edge-same k l;
+    edge-same-or-more = λ k l. counted (p .edge-same-or-more k l) (q .edge-same-or-more k (omega arith));
   }
     where
       latest : {x : ℕ} → LatestOrAdded T T1 x → LatestOrAdded T1 T2 x → LatestOrAdded T T2 x
       latest (inl a) (inl b) = inl (b ∙ a)
       latest (inr a) (inl b) = inr (omega arith, omega arith)
       latest a (inr b) = inr (omega arith, omega arith)
+
+      counted : {k : ℕ} → SameOrMore T T1 k → SameOrMore T1 T2 k → SameOrMore T T2 k
+      counted (inl a) (inl b) = inl (b ∙ a)
+      counted {k} (inl a) (inr b) =
+          let n = ap (λ (r : EdgeRow). r .count) a in
+          inr (record {
+            row = b .row ∙ ap (λ (r : EdgeRow). recounted r (T2 .edge k .count) (T2 .edge k .last)) a;
+            count-less = omega (arith, b .count-less);
+            last-later = omega (arith, b .last-later, g .last-le);
+            last-within = b .last-within;
+          })
+      counted {k} (inr a) (inl b) =
+          let n = ap (λ (r : EdgeRow). r .count) b in
+          let l = ap (λ (r : EdgeRow). r .last) b in
+          inr (record {
+            row = b ∙ a .row ∙ (λ i. recounted (T .edge k) (sym n i) (sym l i));
+            count-less = omega (arith, a .count-less);
+            last-later = omega (arith, a .last-later);
+            last-within = omega (arith, a .last-within, h .last-le);
+          })
+      counted {k} (inr a) (inr b) = inr (record {
+        row = b .row ∙ ap (λ (r : EdgeRow). recounted r (T2 .edge k .count) (T2 .edge k .last)) (a .row);
+        count-less = omega (arith, a .count-less, b .count-less);
+        last-later = omega (arith, b .last-later, g .last-le);
+        last-within = b .last-within;
+      })
 
 framed-refl : (c : Counts) (t : Tables) (x : Checked) → Framed c t (batched x 0 c t)
 framed-refl c t x = record {

@@ -32,14 +32,14 @@ inUse c = record { entities = c .entities; versions = c .versions; edges = c .ed
 module _ (cap : Capacity) (T : Trail) (f : RowFacts T) where
   -- a record writes at rows that are in use after it
   happened-in-use : (e : Event) (d : Decision) → EventTaken cap T e d → Within (inUse (happened T e d .counts)) (happened T e d .writes)
-  happened-in-use e (Repeat k) p = tt
+  happened-in-use e (Repeat k) p = (p .room-left, tt)
   happened-in-use e Widen p = (f .entity (e .target .0) (p .target-in) .latest-in, (omega arith, tt))
   happened-in-use e Renew p = (omega arith, (p .target-in, (omega arith, tt)))
 
   writes-in-use : (r : Record) → refusalOf cap T r ≡ Passed → Within (inUse (changeOf T r .counts)) (changeOf T r .writes)
   unfolding refusalOf changeOf
   writes-in-use (records.Declaration d) h = (omega arith, (omega arith, tt))
-  writes-in-use (records.Event e) h = happened-in-use e (decisionOf T e) (event-taken cap T e (decisionOf T e) h)
+  writes-in-use (records.Event e) h = happened-in-use e (decisionOf T e) (event-taken cap T e h)
 
   -- what it makes of the counts
   happened-grow : (e : Event) (d : Decision) → EventTaken cap T e d → CountsGrow (T .counts) (happened T e d .counts) 1
@@ -50,7 +50,7 @@ module _ (cap : Capacity) (T : Trail) (f : RowFacts T) where
   counts-grow : (r : Record) → refusalOf cap T r ≡ Passed → CountsGrow (T .counts) (changeOf T r .counts) 1
   unfolding refusalOf changeOf
   counts-grow (records.Declaration d) h = search arith
-  counts-grow (records.Event e) h = happened-grow e (decisionOf T e) (event-taken cap T e (decisionOf T e) h)
+  counts-grow (records.Event e) h = happened-grow e (decisionOf T e) (event-taken cap T e h)
 
 module _ (c : Counts) (t : Tables) (s : isSound (capacityOf t) (trailOf c t) ≡ true) (r : Record) where
   abbrev cap : Capacity

@@ -11,6 +11,8 @@ pub mod Coded
 pub mod Ready
 -- A record that is taken in, on rows by number
 pub mod Put
+pub mod Sums
+pub mod Hit
 pub mod Taken
 pub mod Extends
 pub mod Declared

@@ -52,6 +52,9 @@ module _ (T : Trail) where
         also le-leb _ _ (f .time-low)
         also lt-ltb _ _ l
         also le-leb _ _ (f .time-last)
+        also le-leb _ _ (f .count-low)
+        also le-leb _ _ (f .last-low)
+        also le-leb _ _ (f .last-high)
         also done)
 
   module _ (f : RowFacts T) where
@@ -64,6 +67,8 @@ module _ (T : Trail) where
     facts-sound cap g =
         and-of _ _
         (and-of _ _
+        (and-of _ _
         (and-of _ _ (counts-pass cap (T .counts) g) (at-all _ _ (λ x l. entity-passes x (f .entity x l))))
         (at-all _ _ (λ k l. version-passes k (f .version k l))))
-        (at-all _ _ (λ k l. edge-passes k (f .edge k l) (after k l)))
+        (at-all _ _ (λ k l. edge-passes k (f .edge k l) (after k l))))
+        (eq-eqb _ _ (f .sum))

@@ -1,9 +1,10 @@
 -- What the tests of counts, entities and versions give to those after them.
 use Prim.Native.Nat.{ℕ, _≤_, _<_}
 use native.Mathlib.Omega.{arith}
-use mathlib.Core.Path.{_≡_, _∙_}
-use mathlib.Core.Bool.{Bool, true, false, not}
+use mathlib.Core.Path.{_≡_}
+use mathlib.Core.Bool.{Bool, true, false, not, _&&_}
 use mathlib.Core.List.{List, []}
+use lib.Dec.{eqb}
 use lib.ListN.{length, replicate, length-replicate}
 use borrow.Author.Tests.{not-false}
 use Rattle.rows.specs.declared.Counts.{Counts}
@@ -11,11 +12,11 @@ use Rattle.rows.specs.Rows.{edgeAt}
 use Rattle.rows.specs.Capacity.{mostVersions, edgeCapacity}
 use Rattle.rows.proofs.Capacity.{entities-most, versions-most}
 use Rattle.rules.specs.Trail.{Trail, tables, capacityOf, trailOf}
-use Rattle.rules.specs.Sound.{allBelow, soundCounts, entityTest, versionTest, edgeTest, isSound}
+use Rattle.rules.specs.Sound.{allBelow, countSum, soundCounts, entityTest, versionTest, edgeTest, isSound}
 use Rattle.soundness.specs.Facts.{CountFacts, EntityFacts, VersionFacts}
 use Rattle.soundness.specs.Parts.{Owners, RowsReady, VersionsReady, codedTest}
 use Rattle.soundness.proofs.All.{all-at}
-use Rattle.soundness.proofs.Tests.{ands, sort-low, true-by-not}
+use Rattle.soundness.proofs.Tests.{sort-low, true-by-not}
 use Rattle.soundness.proofs.Facts.{counts-facts, entity-facts, version-facts}
 use Rattle.soundness.proofs.Coded.{coded-is}
 
@@ -60,8 +61,10 @@ module _ (c : Counts) (es vs ds owners₀ : List ℕ) (f : RowsReady c (tables e
     pub codes-in : length owners ≡ length owners₀ → c .versions ≤ length owners
     codes-in l = let h = f .room in omega arith
 
-    pub coded-sound : (u : Bool) → u ≡ allBelow (codedTest c owners (edgeAt ds)) (c .edges) → u ≡ isSound (capacityOf (tables es vs ds)) T
+    pub coded-sound : (u : Bool) → u ≡ (allBelow (codedTest c owners (edgeAt ds)) (c .edges) && eqb (countSum (edgeAt ds) (c .edges)) (c .accepted))
+        → u ≡ isSound (capacityOf (tables es vs ds)) T
     unfolding isSound entityTest versionTest
     coded-sound u q =
-        let d : u ≡ allBelow (edgeTest T) (c .edges) = q ∙ (λ i. allBelow (λ k. coded-is T owners entity-at version-at (v .1 (not-false t t-true)) k i) (c .edges)) in
-        search ands depth 8
+        let d : allBelow (codedTest c owners (edgeAt ds)) (c .edges) ≡ allBelow (edgeTest T) (c .edges)
+        = λ i. allBelow (λ k. coded-is T owners entity-at version-at (v .1 (not-false t t-true)) k i) (c .edges) in
+        rw (f .counts, f .entities, true-by-not _ t (v .0) t-true, ← d) q

@@ -19,36 +19,43 @@ use Rattle.rules.specs.Record.{declared, renewed, refusalOf, happened, changeOf
 use Rattle.rules.specs.PlainList.{put, changed}
 use Rattle.soundness.specs.Facts.{RowFacts}
 use Rattle.soundness.specs.Taken.{EventTaken}
-use Rattle.soundness.specs.Frame.{RowsStay}
+use Rattle.soundness.specs.Frame.{CountsMore, RowsStay}
 use Rattle.soundness.proofs.Put.{put-other, put-cases}
 use Rattle.soundness.proofs.Taken.{event-taken}
 use Rattle.soundness.proofs.Extends.{Extends}
 use Rattle.soundness.proofs.Declared.{declared-extends, other-entity}
-use Rattle.soundness.proofs.Repeated.{repeated-extends}
-use Rattle.soundness.proofs.Widened.{widened-extends}
-use Rattle.soundness.proofs.Renewed.{renewed-extends}
+use Rattle.soundness.proofs.Repeated.{repeated-extends, repeated-edges}
+use Rattle.soundness.proofs.Widened as by-widening
+use Rattle.soundness.proofs.Renewed as by-renewal
 
 -- the latest version of entity x in T′ is the one it has in T, or one that was added
 abbrev pub LatestOrAdded : Trail → Trail → ℕ → Type 0
 LatestOrAdded T T′ x = (latestOf T′ x ≡ latestOf T x) ⊎ ((T .counts .versions ≤ latestOf T′ x) × (latestOf T′ x < T′ .counts .versions))
 
+-- edge k keeps its row, or stands for more events
+abbrev pub SameOrMore : Trail → Trail → ℕ → Type 0
+SameOrMore T T′ k = (T′ .edge k ≡ T .edge k) ⊎ CountsMore T T′ k
+
 module _ (T : Trail) where
-  -- what is left to show of T′ where it extends T: latest versions and ends
+  -- what is left to show of T′ where it extends T: latest versions, ends, and counts of edges
   abbrev Latest : Trail → Type 0
   Latest T′ = (x : ℕ) → x < T .counts .entities → LatestOrAdded T T′ x
 
   abbrev Ends : (ℕ → VersionRow) → Type 0
   Ends W = (k : ℕ) → k < T .counts .versions → T .version k .end ≤ W k .end
 
-  extends-stay : (T′ : Trail) → Extends T T′ → Latest T′ → Ends (T′ .version) → RowsStay T T′
-  extends-stay T′ g latest ends = record {
+  abbrev Counted : Trail → Type 0
+  Counted T′ = (k : ℕ) → k < T .counts .edges → SameOrMore T T′ k
+
+  extends-stay : (T′ : Trail) → Extends T T′ → Latest T′ → Ends (T′ .version) → Counted T′ → RowsStay T T′
+  extends-stay T′ g latest ends counted = record {
     sort-same = g .sort-same;
     latest-or-added = latest;
     owner-same = g .owner-same;
     start-same = g .start-same;
     end-le = ends;
     previous-same = g .previous-same;
-    edge-same = g .edge-same;
+    edge-same-or-more = counted;
   }
 
   -- a version added leaves the ends of those before it
@@ -58,7 +65,7 @@ module _ (T : Trail) where
   declared-stay : (d : Declaration) → RowsStay T (changed T (declared (T .counts) d))
   declared-stay d =
       extends-stay _ (declared-extends T d) (λ x l. inl (ap (λ (r : EntityRow). r .latest .0) (other-entity T d x l)))
-      (added-ends _)
+      (added-ends _) (λ k l. inl refl)
 
   module _ (cap : Capacity) (f : RowFacts T) (e : Event) where
     -- the end becomes the event's time, which is above every end
@@ -73,11 +80,11 @@ module _ (T : Trail) where
         (put-cases (T .entity) (e .target .0) (entityRow (T .entity (e .target .0) .sort) (T .counts .versions)) x)
 
     happened-stay : (d : Decision) → EventTaken cap T e d → RowsStay T (changed T (happened T e d))
-    happened-stay (Repeat k) p = extends-stay _ (repeated-extends cap T e (Repeat k) p) (λ x l. inl refl) (λ k l. omega arith)
-    happened-stay Widen p = extends-stay _ (widened-extends cap T e Widen p) (λ x l. inl refl) (widened-ends (p .later) _ _ refl)
-    happened-stay Renew p = extends-stay _ (renewed-extends cap T e Renew p) renewed-latest (added-ends _)
+    happened-stay (Repeat k) p = extends-stay _ (repeated-extends cap T e k p) (λ x l. inl refl) (λ k l. omega arith) (λ j l. repeated-edges cap T e k p j)
+    happened-stay Widen p = extends-stay _ (by-widening.widened-extends cap T e Widen p) (λ x l. inl refl) (widened-ends (p .later) _ _ refl) (λ k l. inl (by-widening.old-row cap T e Widen p k l))
+    happened-stay Renew p = extends-stay _ (by-renewal.renewed-extends cap T e Renew p) renewed-latest (added-ends _) (λ k l. inl (by-renewal.old-row cap T e Renew p k l))
 
   pub step-stay : (cap : Capacity) (r : Record) → refusalOf cap T r ≡ Passed → RowFacts T → RowsStay T (changed T (changeOf T r))
   unfolding refusalOf changeOf
   step-stay cap (records.Declaration d) h f = declared-stay d
-  step-stay cap (records.Event e) h f = happened-stay cap f e (decisionOf T e) (event-taken cap T e (decisionOf T e) h)
+  step-stay cap (records.Event e) h f = happened-stay cap f e (decisionOf T e) (event-taken cap T e h)

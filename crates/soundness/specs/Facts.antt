@@ -1,11 +1,11 @@
--- What sound tables (document 01, "Tables") give for each row.
+-- What sound tables (document 01, "Tables"; document 02, 2.1) give for each row.
 use Prim.Native.Nat.{ℕ, suc, _≤_, _<_}
 use mathlib.Core.Path.{_≡_}
 use mathlib.Core.Bool.{true, _||_}
 use Rattle.rows.specs.declared.Counts.{Counts}
 use Rattle.record.specs.Layout.{mostKind}
 use Rattle.rules.specs.Trail.{Capacity, Trail, none, mostAccepted, latestOf, ownerOf}
-use Rattle.rules.specs.Sound.{isObject, isSubject, sourceFits, targetFits}
+use Rattle.rules.specs.Sound.{isObject, isSubject, sourceFits, targetFits, countSum}
 
 pub record CountFacts (cap : Capacity) (c : Counts) : Type 0 where
   pub entities-in : c .entities ≤ cap .entities
@@ -39,6 +39,9 @@ pub record EdgeFacts (T : Trail) (k : ℕ) : Type 0 where
   pub target-fits : targetFits (T .edge k .kind) (T .entity (ownerOf T (T .edge k .to .0)) .sort) ≡ true
   pub time-low : 1 ≤ T .edge k .time
   pub time-last : T .edge k .time ≤ T .counts .last
+  pub count-low : 1 ≤ T .edge k .count
+  pub last-low : T .edge k .time ≤ T .edge k .last
+  pub last-high : T .edge k .last ≤ T .counts .last
 
 pub record RowFacts (T : Trail) : Type 0 where
   pub entity : (x : ℕ) → x < T .counts .entities → EntityFacts T x
@@ -46,3 +49,5 @@ pub record RowFacts (T : Trail) : Type 0 where
   pub edge : (k : ℕ) → k < T .counts .edges → EdgeFacts T k
   -- edge times rise strictly
   pub rises : (k : ℕ) → suc k < T .counts .edges → T .edge k .time < T .edge (suc k) .time
+  -- the counts sum to accepted
+  pub sum : countSum (T .edge) (T .counts .edges) ≡ T .counts .accepted

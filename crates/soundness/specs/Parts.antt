@@ -41,7 +41,15 @@ sortsFit kind s t = every (leb 1 kind ∷ sourceFits kind s ∷ targetFits kind 
 
 -- an edge of row e after one at time b, from an entity of code x to one of code y, up to last
 unfoldable pub soundCodes : ℕ → ℕ → EdgeRow → ℕ → ℕ → Bool
-soundCodes last b e x y = every (sortsFit (e .kind) (x % 2) (y % 2) ∷ not (eqb x y) ∷ mayFollow b (e .time) ∷ leb (e .time) last ∷ [])
+soundCodes last b e x y =
+    every
+    (sortsFit (e .kind) (x % 2) (y % 2)
+    ∷ not (eqb x y)
+    ∷ mayFollow b (e .time)
+    ∷ leb 1 (e .count)
+    ∷ leb (e .time) (e .last)
+    ∷ leb (e .last) last
+    ∷ [])
 
 unfoldable pub codedEdge : Counts → List ℕ → ℕ → EdgeRow → Bool
 codedEdge c owners b e =

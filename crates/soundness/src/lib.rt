@@ -8,15 +8,16 @@ use rows::MOST_VERSIONS;
 use rows::VersionNo;
 use rows::VersionRow;
 ghost use mathlib.Core.Path.{_≡_};
-ghost use mathlib.Core.Bool.{true};
+ghost use mathlib.Core.Bool.{true, _&&_};
 ghost use mathlib.Core.List.{[]};
+ghost use lib.Dec.{eqb};
 ghost use Prim.Native.Nat.{_≤_, _<_, _%_};
 ghost use lib.ListN.{length};
 ghost use Rattle.rows.specs.Rows.{entityAt, versionAt, edgeAt};
 ghost use Rattle.rows.specs.Capacity.{mostEntities, versionCapacity, edgeCapacity};
 ghost use Rattle.record.specs.Layout.{mostKind};
 ghost use Rattle.rules.specs.Trail.{tables, capacityOf, trailOf};
-ghost use Rattle.rules.specs.Sound.{allBelow, sourceFits, targetFits, soundCounts, soundEntity, soundPrevious, soundVersion, entityTest, versionTest, isSound};
+ghost use Rattle.rules.specs.Sound.{allBelow, countSum, sourceFits, targetFits, soundCounts, soundEntity, soundPrevious, soundVersion, entityTest, versionTest, isSound};
 ghost use Rattle.soundness.specs.Parts.{codeOf, Owners, VersionsReady, RowsReady, sortsFit, soundCodes, codedEdge, codedTest};
 
 // The previous of a first version.
@@ -133,7 +134,12 @@ fn codes_ok(last: u32, before: u32, e: EdgeRow, a: u16, b: u16) -> bool
     requires { ⌜ e .kind ≤ mostKind ⌝ }
     ensures { λ z. ⌜ z ≡ soundCodes last before e a b ⌝ }
 {
-    sorts_fit(e.kind, a, b) & (a != b) & (before < e.time) & (e.time <= last)
+    sorts_fit(e.kind, a, b)
+        & (a != b)
+        & (before < e.time)
+        & (1 <= e.count)
+        & (e.time <= e.last)
+        & (e.last <= last)
 }
 
 // The row e is of an edge after one at time before; owners has the code of each version's entity.
@@ -217,24 +223,27 @@ fn versions_ok(c: Counts, entities: &[u32], versions: &[u32], owners: &mut [u16]
     true
 }
 
-// Keeps the time of the edge before.
+// Keeps the time of the edge before, and the sum of the counts, which takes at most 50 bits.
 fn edges_ok(c: Counts, owners: &[u16], edges: &[u32]) -> bool
     requires { ⌜ (c .versions ≤ length (now owners)) × (c .edges ≤ edgeCapacity (now edges)) ⌝ }
-    ensures { λ z. ⌜ z ≡ allBelow (codedTest c (now (owners .entry)) (edgeAt (now (edges .entry)))) (c .edges) ⌝ }
+    ensures { λ z. ⌜ z ≡ (allBelow (codedTest c (now (owners .entry)) (edgeAt (now (edges .entry)))) (c .edges)
+        && eqb (countSum (edgeAt (now (edges .entry))) (c .edges)) (c .accepted)) ⌝ }
 {
     let n = c.edges;
     let mut before: u32 = 0;
+    let mut sum: u64 = 0;
     let mut k: u32 = 0;
     while k < n {
         let e = rows::edge_in(edges, EdgeNo(k));
         if edge_ok(c, owners, before, e) {
             before = e.time;
+            sum += e.count as u64;
             k += 1;
         } else {
             return false;
         }
     }
-    true
+    sum == (c.accepted as u64)
 }
 
 // The versions, and then the edges by the codes that the pass over the versions writes.

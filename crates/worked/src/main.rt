@@ -233,7 +233,7 @@ fn log(c: Counts, entities: &[u32], versions: &[u32], edges: &[u32]) {
 fn main() {
     let mut entities = [0u32; 16];
     let mut versions = [0u32; 32];
-    let mut edges = [0u32; 32];
+    let mut edges = [0u32; 48];
     let file = FILE;
     let fresh = Counts {
         entities: 0,

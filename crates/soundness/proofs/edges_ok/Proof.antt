@@ -1,32 +1,42 @@
--- The invariant: every edge passed so far meets the test, and `before` is the time of the edge before. The measure is how many are left.
-use Prim.Native.Nat.{_≤_, _-_}
+-- The invariant: every edge passed so far meets the test, `before` is the time of the edge before, and `sum` is the
+-- sum of their counts, at most 2^32 - 1 each. The measure is how many are left.
+use Prim.Native.Nat.{_*_, _≤_, _-_}
 use mathlib.Core.Path.{_≡_, refl}
 use mathlib.Core.Bool.{true}
 use Rattle.rows.specs.Rows.{edgeAt}
-use Rattle.rules.specs.Sound.{allBelow, timeBefore}
+use Rattle.rows.specs.Capacity.{edgeCapacity}
+use Rattle.rules.specs.Sound.{allBelow, timeBefore, countSum}
 use Rattle.soundness.specs.Parts.{codedTest}
-use Rattle.soundness.proofs.All.{all-end}
-use Rattle.soundness.proofs.Edges.{timeBefore-zero, time-next, edges-stop, edges-next}
+use Rattle.soundness.proofs.Edges.{timeBefore-zero, time-next, edges-stop, edges-next, sum-next, edges-end}
+use Rattle.soundness.proofs.Sums.{countSum-zero}
 use borrow.Author.Needs.{needs}
 use native.Mathlib.Omega.{arith}
 use Rattle.soundness.proofs.edges_ok.Statement.{statement}
 use Rattle.soundness.proofs.edges_ok.Tie as tie
 
 abbrev Inv-loop : tie.InvT-loop
-Inv-loop c owners edges n before₀ k₀ before k = (k ≤ n) × (before ≡ timeBefore (edgeAt edges) k) × (allBelow (codedTest c owners (edgeAt edges)) k ≡ true)
+Inv-loop c owners edges n before₀ sum₀ k₀ before sum k =
+    (k ≤ n) × (before ≡ timeBefore (edgeAt edges) k) × (allBelow (codedTest c owners (edgeAt edges)) k ≡ true) × (sum ≡ countSum (edgeAt edges) k) × (sum ≤ k * 4294967295)
 
 abbrev μ-loop : tie.MeasureT-loop
-μ-loop c owners edges n before₀ k₀ before k = n - k
+μ-loop c owners edges n before₀ sum₀ k₀ before sum k = n - k
 
 loop-holds : tie.Need-loop-holds Inv-loop μ-loop
 unfolding allBelow
-loop-holds c = (omega arith, timeBefore-zero _, refl)
+loop-holds c = (omega arith, timeBefore-zero _, refl, countSum-zero _, omega arith)
 
 edge-in-requires : tie.Need-edge-in-requires Inv-loop μ-loop
 edge-in-requires c κs = search needs
 
 edge-ok-requires : tie.Need-edge-ok-requires Inv-loop μ-loop
 edge-ok-requires c κs = search needs
+
+cast-sum : tie.Need-cast-sum Inv-loop μ-loop
+cast-sum c = search needs
+
+add-sum : tie.Need-add-sum Inv-loop μ-loop
+unfolding edgeCapacity
+add-sum c = search needs
 
 add-k : tie.Need-add-k Inv-loop μ-loop
 add-k c = search needs
@@ -35,13 +45,16 @@ loop-less : tie.Need-loop-less Inv-loop μ-loop
 loop-less c = search needs
 
 loop-again : tie.Need-loop-again Inv-loop μ-loop
-loop-again c = (omega arith, search time-next, search edges-next)
+loop-again c = (omega arith, search time-next, search edges-next, search sum-next, omega arith)
 
 returns : tie.Need-returns Inv-loop μ-loop
 returns c = search edges-stop
 
+cast-result : tie.Need-cast-result Inv-loop μ-loop
+cast-result c = search needs
+
 returns-2 : tie.Need-returns-2 Inv-loop μ-loop
-returns-2 c = search all-end
+returns-2 c = search edges-end
 
 pub edges-ok-spec : {M : Type 1} → statement M
 edges-ok-spec =
@@ -52,8 +65,11 @@ edges-ok-spec =
     loop-holds
     edge-in-requires
     edge-ok-requires
+    cast-sum
+    add-sum
     add-k
     loop-less
     loop-again
     returns
+    cast-result
     returns-2)
