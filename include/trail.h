@@ -122,7 +122,7 @@ typedef struct slt_log_answer {
 
 /*
  * Takes the records of an event file in, in order until the first one refused. A read, write or load that repeats what an edge from
- * its source's latest version gave its target keeps no edge: it adds one to the count of the newest such edge and sets its last.
+ * its source's latest version gave its target keeps no edge: it adds one to the count of the newest such edge and sets its last time.
  *
  * Refused with 16, 1, 2, then at each record with 3, 4; a declaration with 6, 10, 11; an event with 5, 7, 8, 9, 13, 12, 11.
  * Refused with 16, 1 or 2 it takes nothing in and writes nothing. Refused at a record, it leaves the counts and the tables as
@@ -171,8 +171,9 @@ slt_forward_answer slt_forward(
 
 /*
  * Writes the kept log to the start of `out`: an event file with the header, all declarations by number, then all edges in
- * order as events. It has SLT_HEADER_LENGTH + SLT_RECORD_LENGTH * (entities + edges) bytes, which is the length returned. Counts
- * and last times are not in it: in a trail grown from the log of one that batches grew, each edge stands for its own event alone.
+ * order as events. It has SLT_HEADER_LENGTH + SLT_RECORD_LENGTH * (entities + edges) bytes, which is the length returned. Counts and
+ * last times are not in it: a fresh trail that takes in the log of a trail that batches grew from a fresh one has edges that each
+ * stand for their own event alone.
  *
  * Refused with 16, 15; then the length is 0 and nothing is written. Bytes after the log are left alone.
  */

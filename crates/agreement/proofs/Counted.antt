@@ -51,17 +51,20 @@ module _ (e : Event) (m : ℕ) (S : ℕ → List Event) where
     past = λ k l. more-other k (λ q. omega arith) ∙ s .past k (omega arith);
   }
 
+-- an edge is kept for the event
+kept-stands : (T : Trail) (S : ℕ → List Event) → Stands (T .counts .edges) (T .edge) S → (e : Event) (r : EdgeRow) → r .count ≡ 1 → r .last ≡ e .time
+    → Stands (T .counts .edges + 1) (put (T .edge) (T .counts .edges) r) (oneMore e (T .counts .edges) S)
+kept-stands T S s e r count last =
+    let z = ap length (s .past (T .counts .edges) (omega arith)) in
+    stands-more e (T .counts .edges) S (T .counts .edges) _ (T .edge) r s (omega arith) last (omega arith) (omega arith) (λ j h i. omega arith)
+
 event-stands : (T : Trail) (S : ℕ → List Event) → Stands (T .counts .edges) (T .edge) S → (e : Event) (d : Decision) → decisionOf T e ≡ d
     → Stands (changed T (happened T e d) .counts .edges) (changed T (happened T e d) .edge) (oneMore e (edgeFor T d) S)
 event-stands T S s e (Repeat k) q =
     let l = decision-found T e k q .0 in
     stands-more e (k .0) S (T .counts .edges) _ (T .edge) _ s (ap (λ (n : ℕ). n + 1) (s .count-is (k .0) l)) refl l (omega arith) (λ j h i. i)
-event-stands T S s e Widen q =
-    let z = ap length (s .past (T .counts .edges) (omega arith)) in
-    stands-more e (T .counts .edges) S (T .counts .edges) _ (T .edge) _ s (omega arith) refl (omega arith) (omega arith) (λ j h i. omega arith)
-event-stands T S s e Renew q =
-    let z = ap length (s .past (T .counts .edges) (omega arith)) in
-    stands-more e (T .counts .edges) S (T .counts .edges) _ (T .edge) _ s (omega arith) refl (omega arith) (omega arith) (λ j h i. omega arith)
+event-stands T S s e Widen q = kept-stands T S s e _ refl refl
+event-stands T S s e Renew q = kept-stands T S s e _ refl refl
 
 pub worked-stands : (rs : List Record) → Stands (worked rs .counts .edges) (worked rs .edge) (standsFor rs)
 unfolding standsFor changeOf
@@ -84,15 +87,18 @@ allKept-are (e ∷ ks) = allKept-are ks
 abbrev Own : EdgeRow → Type 0
 Own r = (r .count ≡ 1) × (r .last ≡ r .time)
 
-event-own : (T : Trail) (e : Event) (d : Decision) (hs : List Item) → (AllKept hs → (k : ℕ) → k < T .counts .edges → Own (T .edge k)) → AllKept (itemOf d e ∷ hs)
-    → (k : ℕ) → k < changed T (happened T e d) .counts .edges → Own (changed T (happened T e d) .edge k)
-event-own T e (Repeat j) hs ih a = absurd a
-event-own T e Widen hs ih a =
-    put-each (T .edge) (T .counts .edges) _ (λ k r. k < T .counts .edges + 1 → Own r) (λ l. (refl, refl)) (λ k h l. ih a k (omega arith))
-event-own T e Renew hs ih a =
-    put-each (T .edge) (T .counts .edges) _ (λ k r. k < T .counts .edges + 1 → Own r) (λ l. (refl, refl)) (λ k h l. ih a k (omega arith))
+abbrev AllOwn : Trail → Type 0
+AllOwn T = (k : ℕ) → k < T .counts .edges → Own (T .edge k)
 
-pub worked-own : (rs : List Record) → AllKept (itemsOf rs) → (k : ℕ) → k < worked rs .counts .edges → Own (worked rs .edge k)
+kept-own : (T : Trail) (r : EdgeRow) → AllOwn T → Own r → (k : ℕ) → k < T .counts .edges + 1 → Own (put (T .edge) (T .counts .edges) r k)
+kept-own T r old own = put-each (T .edge) (T .counts .edges) r (λ k x. k < T .counts .edges + 1 → Own x) (λ l. own) (λ k h l. old k (omega arith))
+
+event-own : (T : Trail) (e : Event) (d : Decision) (hs : List Item) → (AllKept hs → AllOwn T) → AllKept (itemOf d e ∷ hs) → AllOwn (changed T (happened T e d))
+event-own T e (Repeat j) hs ih a = absurd a
+event-own T e Widen hs ih a = kept-own T _ (ih a) (refl, refl)
+event-own T e Renew hs ih a = kept-own T _ (ih a) (refl, refl)
+
+pub worked-own : (rs : List Record) → AllKept (itemsOf rs) → AllOwn (worked rs)
 unfolding changeOf
 worked-own [] a = λ k l. absurd (omega arith)
 worked-own (records.Declaration d ∷ rs) a = worked-own rs a

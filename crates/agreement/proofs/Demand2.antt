@@ -10,6 +10,7 @@ use Rattle.refusals.specs.declared.Checked.the-variants.{Passed, Refused}
 use Rattle.refusals.specs.Refusals.{firstOf, numberOf}
 use Rattle.rows.specs.declared.Counts.{Counts}
 use Rattle.rows.specs.declared.EdgeRow.{EdgeRow}
+use Rattle.rows.specs.Rows.{edgeAt}
 use Rattle.record.specs.declared.Record.{Record}
 use Rattle.record.specs.declared.Record.the-variants as records
 use Rattle.record.specs.declared.Event.{Event}
@@ -51,18 +52,19 @@ held-holds cs a t l =
     let m = matches cs a in
     let k = known _ _ m t l in
     let s = lent-alike _ _ m t l in
+    let w = worked-stands (plainAfter cs) in
+    let inside : (k : ℕ) → k < heldAfter cs .counts .edges → k < worked (plainAfter cs) .counts .edges = λ k i. omega (arith, s .rows .edges) in
+    let row : (k : ℕ) → k < heldAfter cs .counts .edges → edgeAt (t .edges) k ≡ worked (plainAfter cs) .edge k = λ k i. sym (s .rows .edge-rows k (inside k i)) in
     record {
       counts = sym (s .counts);
       entity-rows = λ x i. sym (s .rows .entity-rows x (omega (arith, s .rows .entities)));
       version-rows = λ x i. sym (s .rows .version-rows x (omega (arith, s .rows .versions)));
-      edge-rows = λ x i. sym (s .rows .edge-rows x (omega (arith, s .rows .edges)));
+      edge-rows = row;
       accepted-are = ap (λ (c : Counts). c .accepted) (sym (s .counts)) ∙ accepted-count (plainAfter cs);
       edges-are = k .faithful .edges;
       kept = k .faithful .log;
-      counts-are = λ x i. let j : x < worked (plainAfter cs) .counts .edges = omega (arith, s .rows .edges) in
-          ap (λ (r : EdgeRow). r .count) (sym (s .rows .edge-rows x j)) ∙ worked-stands (plainAfter cs) .count-is x j;
-      lasts-are = λ x i. let j : x < worked (plainAfter cs) .counts .edges = omega (arith, s .rows .edges) in
-          ap (λ (r : EdgeRow). r .last) (sym (s .rows .edge-rows x j)) ∙ worked-stands (plainAfter cs) .last-is x j;
+      counts-are = λ k i. ap (λ (r : EdgeRow). r .count) (row k i) ∙ w .count-is k (inside k i);
+      lasts-are = λ k i. ap (λ (r : EdgeRow). r .last) (row k i) ∙ w .last-is k (inside k i);
       sum-is = lent-rows _ _ m t l .sum ∙ ap (λ (c : Counts). c .accepted) (sym (s .counts)) ∙ accepted-count (plainAfter cs);
       versions = k .faithful .versions;
     }

@@ -17,7 +17,7 @@ use Rattle.rows.specs.declared.EdgeRow.{EdgeRow}
 use Rattle.rules.specs.declared.BatchAnswer.{BatchAnswer}
 use Rattle.rules.specs.declared.BackwardAnswer.{BackwardAnswer}
 use Rattle.rules.specs.PlainList.{worked}
-use Rattle.rules.specs.StandsFor.{standsFor}
+use Rattle.rules.specs.StandsFor.{standsFor, lastTime}
 use Rattle.rules.specs.Backward.{traceRefusals}
 use Rattle.rules.specs.CallCases.{execves}
 use Rattle.rules.proofs.Computed.{computed}
@@ -38,7 +38,7 @@ not-16 rs x work marks = go (leb (worked rs .counts .entities) x) (ltb (length w
     go false false true q = omega arith
     go false false false q = omega arith
 
--- of two execves and a read that repeats both, the first execve's edge stands for that event alone
+-- of two execves and a read that repeats both, the first execve's edge stands for that event alone, the second's for the read too
 execves-edges : worked execves .counts .edges ≡ 2
 unfolding computed
 execves-edges = refl
@@ -46,6 +46,10 @@ execves-edges = refl
 execves-first : length (standsFor execves 0) ≡ 1
 unfolding computed
 execves-first = refl
+
+execves-last : lastTime (standsFor execves 1) ≡ 3
+unfolding computed
+execves-last = refl
 
 eleven : (k : ℕ) → (k ≡ 11 → ⊥) → NoAnswer 8 (λ a. a .taken ≡ k)
 eleven k n a w g = n (sym w ∙ ap (λ (z : BatchAnswer). z .taken) (answer-is 8 a g ∙ rows .p1-answer))
@@ -96,6 +100,9 @@ refuted = record {
   count-on-the-oldest = λ c t w h.
       let n = ap (λ (z : Counts). z .edges) (h .counts) in
       omega (arith, h .counts-are 0 (omega (arith, execves-edges)), execves-first);
+  last-of-the-kept = λ c t w h.
+      let n = ap (λ (z : Counts). z .edges) (h .counts) in
+      omega (arith, h .lasts-are 1 (omega (arith, execves-edges)), execves-last);
   all-refused = eleven 0 (λ q. omega arith);
   first-record-taken = eleven 1 (λ q. omega arith);
   no-row-left = eleven 9 (λ q. omega arith);

@@ -1,7 +1,7 @@
 -- Document 01, "Agreement": "These are shut out". The claims determine counts, rows in use, marks, count, intake and the numbers that the
 -- calls return (`Determined`, and equations), so a wrong one contradicts them. `Refuted` says it of each wrong answer that the document
--- names, for the worked list of calls, that list with one event more, or two execves and a read: no answer that is wrong in this way, whatever it is otherwise,
--- is one of which the claim holds.
+-- names, and of wrong counts and last times of edges (document 02, 2.1), for the worked list of calls, that list with one event more, or
+-- two execves and a read: no answer that is wrong in this way, whatever it is otherwise, is one of which the claim holds.
 use Prim.Native.Nat.{ℕ, _≤_, _<_}
 use mathlib.Core.Path.{_≡_}
 use mathlib.Core.List.{List, [], _∷_, _++_, List·Memᴰ}
@@ -146,8 +146,9 @@ pub record Refuted : Type 0 where
   pub last-not-set : NoTables (λ c t. edgeAt (t .edges) 0 .last ≡ 1)
   pub last-of-the-trail : NoTables (λ c t. edgeAt (t .edges) 0 .last ≡ 7)
   pub sum-free : NoTables (λ c t. (countSum (edgeAt (t .edges)) (c .edges) ≡ 7 → ⊥))
-  -- two execves and a read that repeats both: the oldest edge counts it
+  -- two execves and a read that repeats both: the oldest edge counts it; the newest keeps the last time that it had
   pub count-on-the-oldest : (c : Counts) (t : Tables) → edgeAt (t .edges) 0 .count ≡ 2 → Holds execves c t → ⊥
+  pub last-of-the-kept : (c : Counts) (t : Tables) → edgeAt (t .edges) 1 .last ≡ 2 → Holds execves c t → ⊥
   -- "a call refusing all files"; the first record alone
   pub all-refused : NoAnswer 8 (λ a. a .taken ≡ 0)
   pub first-record-taken : NoAnswer 8 (λ a. a .taken ≡ 1)

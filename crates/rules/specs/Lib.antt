@@ -1,4 +1,4 @@
--- Document 01 in its own order.
+-- Document 01 in its own order, with document 02's requests where they change it.
 -- "Tables"
 pub mod Trail
 pub mod Sound
@@ -10,8 +10,9 @@ pub mod Batch
 pub mod Paths
 pub mod History
 pub mod PlainList
-pub mod StandsFor
 pub mod Calls
+-- Document 02, 2.1: what an edge stands for
+pub mod StandsFor
 -- "Traces": the traces, as relations and as computed; the kept log
 pub mod Start
 pub mod Marks

@@ -17,13 +17,13 @@ use Rattle.rules.specs.Sound.{isSound}
 use Rattle.rules.specs.Record.{refusalOf}
 use Rattle.rules.specs.Batch.{batched, takeIn, contentsOf, batchChecks, batchOf}
 use Rattle.soundness.specs.Taken.{SortFits, Each}
-use Rattle.soundness.specs.Frame.{CountsGrow, RowsStay, Framed, Frame}
+use Rattle.soundness.specs.Frame.{CountsGrow, SameOrMore, RowsStay, Framed, Frame}
 use Rattle.soundness.proofs.Taken.{passed-at}
 use Rattle.soundness.proofs.TableStep.{step-sound}
 use Rattle.soundness.proofs.Decoded.{contents-fit}
 use Rattle.soundness.proofs.BatchStep.{ifRefused-passed}
 use Rattle.soundness.proofs.Past.{past-refl, past-trans}
-use Rattle.soundness.proofs.RowsStay.{LatestOrAdded, SameOrMore}
+use Rattle.soundness.proofs.RowsStay.{LatestOrAdded}
 use Rattle.soundness.proofs.FrameStep.{step-framed}
 
 -- Nothing taken in, and one batch after another

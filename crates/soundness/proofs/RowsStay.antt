@@ -19,22 +19,19 @@ use Rattle.rules.specs.Record.{declared, renewed, refusalOf, happened, changeOf
 use Rattle.rules.specs.PlainList.{put, changed}
 use Rattle.soundness.specs.Facts.{RowFacts}
 use Rattle.soundness.specs.Taken.{EventTaken}
-use Rattle.soundness.specs.Frame.{CountsMore, RowsStay}
+use Rattle.soundness.specs.Frame.{SameOrMore, RowsStay}
 use Rattle.soundness.proofs.Put.{put-other, put-cases}
 use Rattle.soundness.proofs.Taken.{event-taken}
 use Rattle.soundness.proofs.Extends.{Extends}
 use Rattle.soundness.proofs.Declared.{declared-extends, other-entity}
 use Rattle.soundness.proofs.Repeated.{repeated-extends, repeated-edges}
-use Rattle.soundness.proofs.Widened as by-widening
-use Rattle.soundness.proofs.Renewed as by-renewal
+use Rattle.soundness.proofs.Kept.{old-row}
+use Rattle.soundness.proofs.Widened.{widened-extends}
+use Rattle.soundness.proofs.Renewed.{renewed-extends}
 
 -- the latest version of entity x in T′ is the one it has in T, or one that was added
 abbrev pub LatestOrAdded : Trail → Trail → ℕ → Type 0
 LatestOrAdded T T′ x = (latestOf T′ x ≡ latestOf T x) ⊎ ((T .counts .versions ≤ latestOf T′ x) × (latestOf T′ x < T′ .counts .versions))
-
--- edge k keeps its row, or stands for more events
-abbrev pub SameOrMore : Trail → Trail → ℕ → Type 0
-SameOrMore T T′ k = (T′ .edge k ≡ T .edge k) ⊎ CountsMore T T′ k
 
 module _ (T : Trail) where
   -- what is left to show of T′ where it extends T: latest versions, ends, and counts of edges
@@ -81,8 +78,8 @@ module _ (T : Trail) where
 
     happened-stay : (d : Decision) → EventTaken cap T e d → RowsStay T (changed T (happened T e d))
     happened-stay (Repeat k) p = extends-stay _ (repeated-extends cap T e k p) (λ x l. inl refl) (λ k l. omega arith) (λ j l. repeated-edges cap T e k p j)
-    happened-stay Widen p = extends-stay _ (by-widening.widened-extends cap T e Widen p) (λ x l. inl refl) (widened-ends (p .later) _ _ refl) (λ k l. inl (by-widening.old-row cap T e Widen p k l))
-    happened-stay Renew p = extends-stay _ (by-renewal.renewed-extends cap T e Renew p) renewed-latest (added-ends _) (λ k l. inl (by-renewal.old-row cap T e Renew p k l))
+    happened-stay Widen p = extends-stay _ (widened-extends cap T e Widen p) (λ x l. inl refl) (widened-ends (p .later) _ _ refl) (λ k l. inl (old-row T e _ k l))
+    happened-stay Renew p = extends-stay _ (renewed-extends cap T e Renew p) renewed-latest (added-ends _) (λ k l. inl (old-row T e _ k l))
 
   pub step-stay : (cap : Capacity) (r : Record) → refusalOf cap T r ≡ Passed → RowFacts T → RowsStay T (changed T (changeOf T r))
   unfolding refusalOf changeOf

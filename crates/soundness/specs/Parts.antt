@@ -39,7 +39,7 @@ pub record VersionsReady (c : Counts) (entities versions owners : List ℕ) : Ty
 unfoldable pub sortsFit : ℕ → ℕ → ℕ → Bool
 sortsFit kind s t = every (leb 1 kind ∷ sourceFits kind s ∷ targetFits kind t ∷ [])
 
--- an edge of row e after one at time b, from an entity of code x to one of code y, up to last
+-- an edge of row e after one at time b, from an entity of code x to one of code y; its last time is up to last, and so its time is too
 unfoldable pub soundCodes : ℕ → ℕ → EdgeRow → ℕ → ℕ → Bool
 soundCodes last b e x y =
     every

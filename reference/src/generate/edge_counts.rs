@@ -4,25 +4,25 @@ use crate::random::Random;
 use crate::rows::EdgeRow;
 use crate::tables::Tables;
 
-/// The most that each edge gets before the rest is dealt out to some.
+/// The most that each edge gets before some get the rest.
 const FEW: u32 = 3;
 
 /// Makes edges that stand for one event each stand for this many in all, with
 /// any last times up to this one. There must be as many events as edges or
 /// more, and none if there is no edge.
-pub fn stand_for(random: &mut Random, rows: &mut [EdgeRow], accepted: u32, last: u32) {
+pub fn give_counts(random: &mut Random, rows: &mut [EdgeRow], accepted: u32, last: u32) {
     let mut rest = accepted - rows.len() as u32;
     if !random.one_in(3) {
-        rest = deal_few(random, rows, rest);
+        rest = add_few(random, rows, rest);
     }
-    deal_out(random, rows, rest);
+    add_all(random, rows, rest);
     for row in rows {
         row.last = last_time(random, row.time, last);
     }
 }
 
-/// Deals a few events out to each edge. Gives how many are left.
-fn deal_few(random: &mut Random, rows: &mut [EdgeRow], mut rest: u32) -> u32 {
+/// Adds a few events to each edge. Gives how many are left.
+fn add_few(random: &mut Random, rows: &mut [EdgeRow], mut rest: u32) -> u32 {
     for row in rows {
         let part = random.between(0, rest.min(FEW));
         row.count += part;
@@ -31,8 +31,8 @@ fn deal_few(random: &mut Random, rows: &mut [EdgeRow], mut rest: u32) -> u32 {
     rest
 }
 
-/// Deals all these events out to one edge or to some.
-pub fn deal_out(random: &mut Random, rows: &mut [EdgeRow], mut rest: u32) {
+/// Adds all these events to one edge or to some.
+pub fn add_all(random: &mut Random, rows: &mut [EdgeRow], mut rest: u32) {
     while rest > 0 {
         let part = match random.below(3) {
             0 => rest,

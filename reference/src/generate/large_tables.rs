@@ -1,6 +1,6 @@
 //! Sound tables of any size that no file gave.
 
-use crate::generate::edge_counts::stand_for;
+use crate::generate::edge_counts::give_counts;
 use crate::random::Random;
 use crate::record::{Kind, Sort};
 use crate::rows::{EdgeRow, EntityRow, VersionRow, NO_VERSION};
@@ -17,7 +17,7 @@ pub fn large_tables(random: &mut Random, entities: u32, versions: u32, edges: u3
     let times = edge_rows.iter().map(|row| row.time);
     let last = starts.chain(times).max().unwrap_or(0);
     let accepted = edges + random.between(0, 2 * edges);
-    stand_for(random, &mut edge_rows, accepted, last);
+    give_counts(random, &mut edge_rows, accepted, last);
     Tables::of_rows(&entity_rows, &version_rows, &edge_rows, accepted, last)
 }
 

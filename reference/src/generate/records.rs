@@ -1,7 +1,7 @@
 //! Records that a trail takes in, row capacity aside.
 
 use crate::full_list::FullList;
-use crate::kept_log::event_of;
+use crate::kept_log::event_of_edge;
 use crate::random::Random;
 use crate::record::{Declaration, Event, Kind, Record, Sort};
 use crate::sound::is_sound;
@@ -23,14 +23,16 @@ impl RecordSource {
         RecordSource::default()
     }
 
-    /// Goes on from tables whose entities fit; the events to repeat are those
-    /// of the edges, if the tables are sound.
+    /// Goes on from tables that hold all their entity rows; the events to
+    /// repeat are those of the edges, if the tables are sound.
     pub fn after_tables(tables: &Tables) -> RecordSource {
         let view = tables.view();
         let sorts = view.entity_rows();
         let sorts = sorts.filter_map(|row| Sort::from_number(row.sort));
         let events = if is_sound(view) {
-            view.edge_rows().map(|edge| event_of(view, edge)).collect()
+            view.edge_rows()
+                .map(|edge| event_of_edge(view, edge))
+                .collect()
         } else {
             Vec::new()
         };

@@ -1,7 +1,7 @@
 //! Sound tables that no file gave.
 
 use crate::capacity::MOST_ACCEPTED;
-use crate::generate::edge_counts::stand_for;
+use crate::generate::edge_counts::give_counts;
 use crate::generate::lengths::{lend_anew, odd_lengths};
 use crate::generate::shapes::Shape;
 use crate::random::Random;
@@ -27,7 +27,7 @@ pub fn sound_tables(random: &mut Random) -> Tables {
     let entities = entity_rows(random, &sorts, &versions);
     let mut edges = edge_rows(random, &sorts, &versions, last);
     let accepted = accepted_count(random, edges.len());
-    stand_for(random, &mut edges, accepted, last);
+    give_counts(random, &mut edges, accepted, last);
     let tables = Tables::of_rows(&entities, &versions, &edges, accepted, last);
     let lengths = odd_lengths(random, tables.counts);
     lend_anew(random, &tables, lengths)

@@ -1,7 +1,7 @@
 //! Accepted events and counts of edges that break a clause.
 
 use crate::capacity::MOST_ACCEPTED;
-use crate::generate::edge_counts::{any_edge, deal_out, raise_accepted, set_count};
+use crate::generate::edge_counts::{add_all, any_edge, raise_accepted, set_count};
 use crate::generate::unsound_tables::number_from;
 use crate::random::Random;
 use crate::rows::EdgeRow;
@@ -29,7 +29,7 @@ fn accept_too_few(random: &mut Random, tables: &mut Tables) -> Option<()> {
     if random.one_in(2) {
         let without = |row: EdgeRow| EdgeRow { count: 0, ..row };
         let mut rows: Vec<EdgeRow> = tables.view().edge_rows().map(without).collect();
-        deal_out(random, &mut rows, tables.counts.accepted);
+        add_all(random, &mut rows, tables.counts.accepted);
         for (number, row) in (0..).zip(rows) {
             tables.set_edge(number, row);
         }

@@ -1,11 +1,12 @@
 //! How many events an edge stands for, in trails grown from fresh.
 
 use crate::common::{fresh, grown, worked_tables};
+use reference::capacity::EDGE_ROW;
 use reference::generate::{grown_tables, lend_anew, roomy_lengths};
 use reference::{FileBuilder, Random, Tables};
 
 /// The edges of the tables, as their numbers.
-fn edges(tables: &Tables) -> Vec<[u32; 6]> {
+fn edges(tables: &Tables) -> Vec<[u32; EDGE_ROW]> {
     tables.view().edge_rows().map(|row| row.numbers()).collect()
 }
 
@@ -30,7 +31,7 @@ fn each_repeat_adds_one_and_sets_the_last_time() {
 }
 
 #[test]
-fn forks_and_runs_are_counted_by_edges_of_their_own() {
+fn forks_and_execves_are_counted_by_edges_of_their_own() {
     let file = FileBuilder::new().subject(0).subject(1).object(2);
     let file = file.fork(0, 1, 1).fork(0, 1, 2);
     let file = file.execve(2, 0, 3).execve(2, 0, 4);
@@ -102,7 +103,7 @@ fn a_refused_event_adds_to_no_count() {
 #[test]
 fn an_event_refused_for_want_of_a_row_adds_to_no_count() {
     let mut tables = fresh(10);
-    tables.edges.truncate(3 * 6);
+    tables.edges.truncate(3 * EDGE_ROW);
     let answer = tables.batch(&reference::worked_file());
     assert_eq!((answer.refusal, answer.taken), (12, 9));
     let expected = [[0, 1, 1, 1, 2, 3], [1, 2, 2, 2, 2, 4], [3, 4, 1, 5, 1, 5]];

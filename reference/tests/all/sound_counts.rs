@@ -90,7 +90,7 @@ fn the_time_is_at_most_that_of_the_trail() {
 }
 
 #[test]
-fn unsound_tables_miss_the_sum_by_one_or_by_32_bits() {
+fn unsound_tables_miss_the_sum_by_one_or_by_2_to_the_32() {
     let mut random = Random::new(44);
     let mut differences = BTreeSet::new();
     for _ in 0..300 {

@@ -6,10 +6,10 @@ use crate::library;
 use crate::line::{Goal, Line};
 use crate::measure::{medians, repeated, timed};
 use reference::capacity::{MOST_EDGES, MOST_ENTITIES, MOST_VERSIONS};
+use reference::kept_log::event_of_edge;
 use reference::peer::Trail;
-use reference::rows::EdgeRow;
 use reference::{
-    Answer, BatchAnswer, Capacity, Counts, Event, FileBuilder, Kind, Random, TableLengths, Tables,
+    Answer, BatchAnswer, Capacity, Counts, Event, FileBuilder, Random, TableLengths, Tables,
 };
 use std::time::Duration;
 
@@ -153,15 +153,9 @@ impl FullTrail {
         let view = self.tables.view();
         let entity = |number: u32| view.version(number).entity;
         let is_latest = |number: u32| view.entity(entity(number)).latest == number;
-        let event = |edge: EdgeRow| Event {
-            kind: Kind::from_number(edge.kind).expect("sound tables hold kinds 1 to 5"),
-            source: entity(edge.from) as u16,
-            target: entity(edge.to) as u16,
-            time: edge.time,
-        };
         let leaving = view.edge_rows().filter(|edge| is_latest(edge.from));
-        let repeatable = leaving.map(event).filter(|event| event.kind.may_repeat());
-        repeatable.collect()
+        let events = leaving.map(|edge| event_of_edge(view, edge));
+        events.filter(|event| event.kind.may_repeat()).collect()
     }
 }
 
