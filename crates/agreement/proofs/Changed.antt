@@ -79,7 +79,8 @@ module _ (T : Trail) (E : ℕ → EntityRow) (V′ : ℕ → VersionRow) (D : �
         edges = refl;
         entity-rows = s .entity-rows;
         version-rows = s .version-rows;
-        edge-rows = λ j l. put-alike (T .edge) D (k .0) _ _ j (ap (λ (x : EdgeRow). recounted x (x .count + 1) (e .time)) (s .edge-rows (k .0) r)) (λ n. s .edge-rows j l);
+        edge-rows = λ j l. put-alike (T .edge) D (k .0) _ _ j
+            (ap (λ (x : EdgeRow). recounted x (x .count + 1) (e .time)) (s .edge-rows (k .0) r)) (λ n. s .edge-rows j l);
       }
       happened-same cap Widen r = record {
         entities = refl;

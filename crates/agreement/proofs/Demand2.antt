@@ -54,7 +54,8 @@ held-holds cs a t l =
     let s = lent-alike _ _ m t l in
     let w = worked-stands (plainAfter cs) in
     let inside : (k : ℕ) → k < heldAfter cs .counts .edges → k < worked (plainAfter cs) .counts .edges = λ k i. omega (arith, s .rows .edges) in
-    let row : (k : ℕ) → k < heldAfter cs .counts .edges → edgeAt (t .edges) k ≡ worked (plainAfter cs) .edge k = λ k i. sym (s .rows .edge-rows k (inside k i)) in
+    let row : (k : ℕ) → k < heldAfter cs .counts .edges → edgeAt (t .edges) k ≡ worked (plainAfter cs) .edge k
+    = λ k i. sym (s .rows .edge-rows k (inside k i)) in
     record {
       counts = sym (s .counts);
       entity-rows = λ x i. sym (s .rows .entity-rows x (omega (arith, s .rows .entities)));

@@ -67,7 +67,9 @@ module _ (h : Held) (rs : List Record) (m : Matches h rs) (t : Tables) (l : Lent
   }
 
   pub lent-rows : RowFacts (trailOf (h .counts) t)
-  lent-rows = rowFacts-same (lent-alike .rows) (ap (λ (c : Counts). c .last) (m .alike .counts)) (ap (λ (c : Counts). c .accepted) (m .alike .counts)) (fine .rows)
+  lent-rows =
+      rowFacts-same (lent-alike .rows) (ap (λ (c : Counts). c .last) (m .alike .counts)) (ap (λ (c : Counts). c .accepted) (m .alike .counts))
+      (fine .rows)
 
   pub lent-sound : isSound (capacityOf t) (trailOf (h .counts) t) ≡ true
   lent-sound =

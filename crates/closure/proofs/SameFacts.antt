@@ -38,6 +38,7 @@ module _ {T T′ : Trail} (s : SameRows T T′) (last : T .counts .last ≡ T′
         old-version T T′ f same-extends k h (omega (arith, v .start-end)) (omega (arith, v .end-last));
     edge = λ k l. let h : k < T .counts .edges = omega (arith, s .edges) in same-edge T T′ f same-extends k h (sym (s .edge-rows k h));
     rises = λ k l. old-rises T T′ f same-extends k (omega (arith, s .edges));
-    sum = ap (countSum (T′ .edge)) (sym (s .edges)) ∙ sym (countSum-same (T .edge) (T′ .edge) (T .counts .edges) (λ k l. ap (λ (r : EdgeRow). r .count) (s .edge-rows k l)))
+    sum = ap (countSum (T′ .edge)) (sym (s .edges))
+        ∙ sym (countSum-same (T .edge) (T′ .edge) (T .counts .edges) (λ k l. ap (λ (r : EdgeRow). r .count) (s .edge-rows k l)))
         ∙ f .sum ∙ accepted;
   }

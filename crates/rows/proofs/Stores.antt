@@ -38,8 +38,8 @@ two-pairs xs x1 x2 i a b c d p q =
     let e : i + 2 ≡ suc (suc i) = omega arith in
     rw (q, p, e)
 
-pub three-pairs : (xs x1 x2 x3 : List ℕ) (i a b c d e f : ℕ) → x1 ≡ sets xs i (a ∷ b ∷ []) → x2 ≡ sets x1 (i + 2) (c ∷ d ∷ []) → x3 ≡ sets x2 (i + 4) (e ∷ f ∷ [])
-    → x3 ≡ sets xs i (a ∷ b ∷ c ∷ d ∷ e ∷ f ∷ [])
+pub three-pairs : (xs x1 x2 x3 : List ℕ) (i a b c d e f : ℕ) → x1 ≡ sets xs i (a ∷ b ∷ []) → x2 ≡ sets x1 (i + 2) (c ∷ d ∷ [])
+    → x3 ≡ sets x2 (i + 4) (e ∷ f ∷ []) → x3 ≡ sets xs i (a ∷ b ∷ c ∷ d ∷ e ∷ f ∷ [])
 three-pairs xs x1 x2 x3 i a b c d e f p q r =
     let e2 : i + 2 ≡ suc (suc i) = omega arith in
     let e4 : i + 4 ≡ suc (suc (suc (suc i))) = omega arith in

@@ -78,7 +78,8 @@ module _ (T : Trail) where
 
     happened-stay : (d : Decision) → EventTaken cap T e d → RowsStay T (changed T (happened T e d))
     happened-stay (Repeat k) p = extends-stay _ (repeated-extends cap T e k p) (λ x l. inl refl) (λ k l. omega arith) (λ j l. repeated-edges cap T e k p j)
-    happened-stay Widen p = extends-stay _ (widened-extends cap T e Widen p) (λ x l. inl refl) (widened-ends (p .later) _ _ refl) (λ k l. inl (old-row T e _ k l))
+    happened-stay Widen p =
+        extends-stay _ (widened-extends cap T e Widen p) (λ x l. inl refl) (widened-ends (p .later) _ _ refl) (λ k l. inl (old-row T e _ k l))
     happened-stay Renew p = extends-stay _ (renewed-extends cap T e Renew p) renewed-latest (added-ends _) (λ k l. inl (old-row T e _ k l))
 
   pub step-stay : (cap : Capacity) (r : Record) → refusalOf cap T r ≡ Passed → RowFacts T → RowsStay T (changed T (changeOf T r))

@@ -3,7 +3,7 @@ use Prim.Native.Nat.{ℕ, zero, suc, _+_, _≤_, _<_}
 use native.Mathlib.Omega.{arith}
 use native.Mathlib.Numerals.{add-one}
 use native.Mathlib.Decide.{ℕ-discrete}
-use mathlib.Core.Path.{_≡_, refl, sym, _∙_, ap}
+use mathlib.Core.Path.{_≡_, refl, _∙_, ap}
 use Rattle.rows.specs.declared.EdgeRow.{EdgeRow}
 use Rattle.rules.specs.Sound.{countSum}
 use Rattle.rules.specs.PlainList.{put}
@@ -32,20 +32,21 @@ module _ (E : ℕ → EdgeRow) (k : ℕ) (r : EdgeRow) where
   below : (n : ℕ) → n ≤ k → countSum (put E k r) n ≡ countSum E n
   below n h = countSum-same (put E k r) E n (λ j l. ap (λ (x : EdgeRow). x .count) (put-other E k r j (λ q. omega arith)))
 
-  -- a count one higher
-  pub countSum-more : r .count ≡ E k .count + 1 → (n : ℕ) → k < n → countSum (put E k r) n ≡ countSum E n + 1
+  pub countSum-put : (n : ℕ) → k < n → countSum (put E k r) n + E k .count ≡ countSum E n + r .count
   unfolding countSum
-  countSum-more q zero l = absurd (omega arith)
-  countSum-more q (suc n) l = go (ℕ-discrete k n) (λ h. countSum-more q n h)
+  countSum-put zero l = absurd (omega arith)
+  countSum-put (suc n) l = go (ℕ-discrete n k) (λ h. countSum-put n h)
     where
-      go : Dec (k ≡ n) → (k < n → countSum (put E k r) n ≡ countSum E n + 1) → countSum (put E k r) n + put E k r n .count ≡ countSum E n + E n .count + 1
+      go : Dec (n ≡ k) → (k < n → countSum (put E k r) n + E k .count ≡ countSum E n + r .count)
+          → countSum (put E k r) n + put E k r n .count + E k .count ≡ countSum E n + E n .count + r .count
       go (yes e) ih =
-          let a : countSum (put E k r) n ≡ countSum E n = below n (omega arith) in
-          let b : put E k r n .count ≡ E n .count + 1 = ap (λ (j : ℕ). put E k r j .count) (sym e) ∙ ap (λ (x : EdgeRow). x .count) (put-same E k r) ∙ q ∙ ap (λ (j : ℕ). E j .count + 1) e in
+          let a = below n (omega arith) in
+          let b = ap (λ (j : ℕ). put E k r j .count) e ∙ ap (λ (x : EdgeRow). x .count) (put-same E k r) in
+          let c = ap (λ (j : ℕ). E j .count) e in
           omega arith
       go (no e) ih =
           let a = ih (omega arith) in
-          let b : put E k r n .count ≡ E n .count = ap (λ (x : EdgeRow). x .count) (put-other E k r n (λ z. e (sym z))) in
+          let b = ap (λ (x : EdgeRow). x .count) (put-other E k r n e) in
           omega arith
 
   -- one edge more

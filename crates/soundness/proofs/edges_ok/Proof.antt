@@ -16,7 +16,8 @@ use Rattle.soundness.proofs.edges_ok.Tie as tie
 
 abbrev Inv-loop : tie.InvT-loop
 Inv-loop c owners edges n before₀ sum₀ k₀ before sum k =
-    (k ≤ n) × (before ≡ timeBefore (edgeAt edges) k) × (allBelow (codedTest c owners (edgeAt edges)) k ≡ true) × (sum ≡ countSum (edgeAt edges) k) × (sum ≤ k * 4294967295)
+    (k ≤ n) × (before ≡ timeBefore (edgeAt edges) k) × (allBelow (codedTest c owners (edgeAt edges)) k ≡ true)
+    × (sum ≡ countSum (edgeAt edges) k) × (sum ≤ k * 4294967295)
 
 abbrev μ-loop : tie.MeasureT-loop
 μ-loop c owners edges n before₀ sum₀ k₀ before sum k = n - k
