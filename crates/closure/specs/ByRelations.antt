@@ -1,5 +1,5 @@
--- Document 01, "Traces": what a trace call returns and leaves, said by the document's checks and relations alone (`traceChecks`,
--- `StartVersion`, `BackwardMarks`, `ForwardMarks`, `IsIntake`), for every counts, tables, entity, time and buffers lent.
+-- Document 01, "Traces": what a trace call returns and leaves, said by the documents' checks and relations alone (`traceChecks`,
+-- `StartVersion`, `BackwardMarks`, `ForwardMarks`, `IsIntake`, `IsEarliest`), for every counts, tables, entities, time and buffers lent.
 -- `backwardOf` and `forwardOf` compute this and nothing else, so how they compute it need not be read.
 use Prim.Native.Nat.{ℕ, _≤_, _<_}
 use mathlib.Core.Path.{_≡_}
@@ -9,9 +9,10 @@ use lib.ListN.{length, getD}
 use Rattle.refusals.specs.Refusals.{firstOf, numberOf}
 use Rattle.rows.specs.declared.Counts.{Counts}
 use Rattle.rules.specs.Trail.{Tables, Trail, trailOf, ownerOf}
-use Rattle.rules.specs.Start.{StartVersion, IsIntake}
+use Rattle.rules.specs.Start.{StartVersion}
 use Rattle.rules.specs.Backward.{BackwardMarks, traceChecks, BackwardTrace, backwardTrace, backwardOf}
-use Rattle.rules.specs.Forward.{ForwardMarks, ForwardTrace, forwardTrace, forwardOf}
+use Rattle.rules.specs.Members.{OfAny, IsEarliest}
+use Rattle.rules.specs.Forward.{MarkedFrom, IntakeFrom, ForwardTrace, forwardTrace, forwardOf}
 
 -- What both traces share
 
@@ -54,21 +55,23 @@ pub record Marking (T : Trail) (M : ℕ → Type 0) (work marks work′ marks′
 -- first to hold in this order, and never otherwise"; the number is "0 if none". "A refused trace .. returns count, intake and length 0
 -- and writes nothing." Otherwise there is a start version s, and the marks are those from it.
 pub record IsBackwardTrace (c : Counts) (t : Tables) (v time : ℕ) (work marks : List ℕ) (b : BackwardTrace) : Type 0 where
-  pub refusal : b .answer .refusal ≡ numberOf (firstOf (traceChecks c t v work marks))
+  pub refusal : b .answer .refusal ≡ numberOf (firstOf (traceChecks c t (v ∷ []) work marks))
   pub refused : (b .answer .refusal ≡ 0 → ⊥) → b ≡ backwardTrace (record { refusal = b .answer .refusal; count = 0 }) work marks
   pub traced : b .answer .refusal ≡ 0 → (s : ℕ) × StartVersion (trailOf c t) v time s
       × Marking (trailOf c t) (BackwardMarks (trailOf c t) s time) work marks (b .work) (b .marks) (b .answer .count)
 
--- f is what a forward call on these returns and leaves
-pub record IsForwardTrace (c : Counts) (t : Tables) (u time : ℕ) (work marks : List ℕ) (f : ForwardTrace) : Type 0 where
-  pub refusal : f .answer .refusal ≡ numberOf (firstOf (traceChecks c t u work marks))
+-- f is what a forward call on these returns and leaves. Document 02, 2.2: it marks "what any of them marks alone. .. an empty list marks
+-- nothing. The count is of the union; the intake given is the earliest of the members'"; each member has a start version.
+pub record IsForwardTrace (c : Counts) (t : Tables) (us : List ℕ) (time : ℕ) (work marks : List ℕ) (f : ForwardTrace) : Type 0 where
+  pub refusal : f .answer .refusal ≡ numberOf (firstOf (traceChecks c t us work marks))
   pub refused : (f .answer .refusal ≡ 0 → ⊥) → f ≡ forwardTrace (record { refusal = f .answer .refusal; count = 0; intake = 0 }) work marks
-  pub traced : f .answer .refusal ≡ 0 → (s : ℕ) × StartVersion (trailOf c t) u time s × IsIntake (trailOf c t) s time (f .answer .intake)
-      × Marking (trailOf c t) (ForwardMarks (trailOf c t) s) work marks (f .work) (f .marks) (f .answer .count)
+  pub started : f .answer .refusal ≡ 0 → (u : ℕ) → List·Memᴰ u us → (s : ℕ) × StartVersion (trailOf c t) u time s
+  pub traced : f .answer .refusal ≡ 0 → IsEarliest us (IntakeFrom (trailOf c t) time) (f .answer .intake)
+      × Marking (trailOf c t) (OfAny us (MarkedFrom (trailOf c t) time)) work marks (f .work) (f .marks) (f .answer .count)
 
 -- the calls as computed are these, and nothing else is
 pub record TracesByRelations : Type 0 where
   pub backward : (c : Counts) (t : Tables) (v time : ℕ) (work marks : List ℕ) (b : BackwardTrace)
       → (b ≡ backwardOf c t v time work marks) ↔ IsBackwardTrace c t v time work marks b
-  pub forward : (c : Counts) (t : Tables) (u time : ℕ) (work marks : List ℕ) (f : ForwardTrace)
-      → (f ≡ forwardOf c t u time work marks) ↔ IsForwardTrace c t u time work marks f
+  pub forward : (c : Counts) (t : Tables) (us : List ℕ) (time : ℕ) (work marks : List ℕ) (f : ForwardTrace)
+      → (f ≡ forwardOf c t us time work marks) ↔ IsForwardTrace c t us time work marks f

@@ -1,4 +1,5 @@
 pub mod Arcs
 pub mod ByRelations
+pub mod Members
 pub mod Collected
 pub mod Same

@@ -6,6 +6,7 @@ pub mod RefusalCases
 pub mod CapacityCases
 pub mod RecordCases
 pub mod TraceCases
+pub mod MemberCases
 pub mod LogCases
 pub mod ListingCases
 pub mod CallCases

@@ -52,17 +52,22 @@ backwardWork T v t = closed (T .counts .versions) (backwardArcs T (startOf T v t
 unfoldable pub backwardEntities : Trail → ℕ → ℕ → List ℕ
 backwardEntities T v t = marksBelow (T .version) (backwardWork T v t) (T .counts .versions) (T .counts .entities)
 
--- 5, 14: "Mark or work buffer shorter than its count."
-abbrev pub traceRefusals : Counts → ℕ → List ℕ → List ℕ → List Check
-traceRefusals c x work marks =
-    check (leb (c .entities) x) Undeclared
-    ∷ check (ltb (length work) (c .versions)) BufferShort
-    ∷ check (ltb (length marks) (c .entities)) BufferShort
-    ∷ []
+-- 5: "Entity not declared." Of a list, "One undeclared member gives 5" (document 02, 2.2)
+abbrev pub undeclaredChecks : Counts → List ℕ → List Check
+undeclaredChecks c [] = []
+undeclaredChecks c (x ∷ xs) = check (leb (c .entities) x) Undeclared ∷ undeclaredChecks c xs
+
+-- 14: "Mark or work buffer shorter than its count."
+abbrev pub bufferChecks : Counts → List ℕ → List ℕ → List Check
+bufferChecks c work marks = check (ltb (length work) (c .versions)) BufferShort ∷ check (ltb (length marks) (c .entities)) BufferShort ∷ []
+
+-- a trace of the entities of the list: 5, 14
+abbrev pub traceRefusals : Counts → List ℕ → List ℕ → List ℕ → List Check
+traceRefusals c xs work marks = undeclaredChecks c xs ++ bufferChecks c work marks
 
 -- "A trace checks 16, 5, 14."
-unfoldable pub traceChecks : Counts → Tables → ℕ → List ℕ → List ℕ → List Check
-traceChecks c t x work marks = check (not (isSound (capacityOf t) (trailOf c t))) Unsound ∷ traceRefusals c x work marks
+unfoldable pub traceChecks : Counts → Tables → List ℕ → List ℕ → List ℕ → List Check
+traceChecks c t xs work marks = check (not (isSound (capacityOf t) (trailOf c t))) Unsound ∷ traceRefusals c xs work marks
 
 -- The call: its answer, and the buffers that it leaves. "A refused trace .. returns count, intake and length 0 and
 -- writes nothing."
@@ -77,8 +82,8 @@ backwardTrace a work marks = record { answer = a; work = work; marks = marks }
 
 unfoldable pub backwardOf : Counts → Tables → ℕ → ℕ → List ℕ → List ℕ → BackwardTrace
 backwardOf c t v time work marks =
-    ifRefused (firstOf (traceChecks c t v work marks))
-    (backwardTrace (record { refusal = numberOf (firstOf (traceChecks c t v work marks)); count = 0 }) work marks)
+    ifRefused (firstOf (traceChecks c t (v ∷ []) work marks))
+    (backwardTrace (record { refusal = numberOf (firstOf (traceChecks c t (v ∷ []) work marks)); count = 0 }) work marks)
     (backwardTrace (record { refusal = 0; count = ones (backwardEntities (trailOf c t) v time) })
     (overlaid (backwardWork (trailOf c t) v time) work)
     (overlaid (backwardEntities (trailOf c t) v time) marks))

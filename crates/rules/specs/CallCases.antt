@@ -35,7 +35,7 @@ abbrev pub reads : List Call
 reads = batch lent (header ++ (event 1 0 1 8 ++ event 1 0 1 8)) ∷ backward lent 2 6 [] [] ∷ batch (room 8) (file 1) ∷ []
 
 abbrev pub calls : List Call
-calls = forward lentThen 1 4 [] [] ∷ reads
+calls = forward lentThen (1 ∷ []) 4 [] [] ∷ reads
 
 -- two execves, and a read that repeats both
 abbrev pub execves : List Record

@@ -10,16 +10,17 @@ use Rattle.rules.specs.Trail.{Tables, tables, Capacity, capacityOf, fres
 use Rattle.rules.specs.Batch.{batchOf}
 use Rattle.rules.specs.PlainList.{addedBy}
 
--- a call with the tables that it is lent; a trace's entity, time, work buffer and mark buffer
+-- a call with the tables that it is lent; a trace's entity, or forward the list of its entities (document 02, 2.2), its time, work buffer
+-- and mark buffer
 pub data Call : Type 0 where
   batch : Tables → List ℕ → Call
   backward : Tables → ℕ → ℕ → List ℕ → List ℕ → Call
-  forward : Tables → ℕ → ℕ → List ℕ → List ℕ → Call
+  forward : Tables → List ℕ → ℕ → List ℕ → List ℕ → Call
 
 abbrev pub lentTo : Call → Tables
 lentTo (batch t file) = t
 lentTo (backward t v time work marks) = t
-lentTo (forward t u time work marks) = t
+lentTo (forward t us time work marks) = t
 
 -- the counts and tables that the calls leave; "It starts from a fresh trail"; a trace changes neither
 pub record Held : Type 0 where
@@ -33,7 +34,7 @@ abbrev pub heldAfter : List Call → Held
 heldAfter [] = held freshCounts (tables [] [] [])
 heldAfter (batch t file ∷ cs) = held (batchOf (heldAfter cs .counts) t file .counts) (batchOf (heldAfter cs .counts) t file .tables)
 heldAfter (backward t v time work marks ∷ cs) = held (heldAfter cs .counts) t
-heldAfter (forward t u time work marks ∷ cs) = held (heldAfter cs .counts) t
+heldAfter (forward t us time work marks ∷ cs) = held (heldAfter cs .counts) t
 
 -- at least as many rows as are in use
 pub record EnoughRows (cap : Capacity) (c : Counts) : Type 0 where
@@ -59,4 +60,4 @@ abbrev pub plainAfter : List Call → List Record
 plainAfter [] = []
 plainAfter (batch t file ∷ cs) = addedBy (capacityOf t) (plainAfter cs) file
 plainAfter (backward t v time work marks ∷ cs) = plainAfter cs
-plainAfter (forward t u time work marks ∷ cs) = plainAfter cs
+plainAfter (forward t us time work marks ∷ cs) = plainAfter cs

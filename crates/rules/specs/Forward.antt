@@ -1,8 +1,9 @@
--- Document 01, "Traces": forward from u at t.
+-- Document 01, "Traces": forward from u at t. Document 02, 2.2: "Forward should take a list of entity numbers and one time, and mark
+-- what any of them marks alone."
 use Prim.Native.Nat.{ℕ, zero, suc, _<_}
 use mathlib.Core.Path.{_≡_}
 use mathlib.Core.Bool.{cond}
-use mathlib.Core.List.{List, [], _∷_, _++_}
+use mathlib.Core.List.{List, [], _∷_, _++_, map}
 use lib.Dec.{eqb}
 use Rattle.refusals.specs.Refusals.{firstOf, numberOf}
 use Rattle.rows.specs.declared.Counts.{Counts}
@@ -11,9 +12,10 @@ use Rattle.rows.specs.declared.EdgeRow.{EdgeRow}
 use Rattle.rules.specs.declared.ForwardAnswer.{ForwardAnswer}
 use Rattle.rules.specs.Trail.{Tables, Trail, trailOf, none}
 use Rattle.rules.specs.Batch.{ifRefused}
-use Rattle.rules.specs.Start.{startOf, intakeOf}
+use Rattle.rules.specs.Start.{StartVersion, startOf, IsIntake, intakeOf}
 use Rattle.rules.specs.Marks.{Arc, arc, closed, marksBelow, ones, overlaid}
 use Rattle.rules.specs.Backward.{traceChecks}
+use Rattle.rules.specs.Members.{earliest}
 
 -- The marked versions, where s is u's start version. "Forward from u at t marks u's start version, then all versions
 -- reached by leaving edges and by going from a version to each one whose previous it is."
@@ -22,6 +24,13 @@ pub data ForwardMarks (T : Trail) (s : ℕ) : ℕ → Type 0 where
   leaving : (k : ℕ) {b : ℕ} → k < T .counts .edges → ForwardMarks T s (T .edge k .from .0) → b ≡ T .edge k .to .0 → ForwardMarks T s b
   next : {a b : ℕ} → ForwardMarks T s a → b < T .counts .versions → (T .version b .previous .0 ≡ none → ⊥) → a ≡ T .version b .previous .0
       → ForwardMarks T s b
+
+-- u alone at t marks version w, and gives the intake i
+abbrev pub MarkedFrom : Trail → ℕ → ℕ → ℕ → Type 0
+MarkedFrom T t u w = (s : ℕ) × StartVersion T u t s × ForwardMarks T s w
+
+abbrev pub IntakeFrom : Trail → ℕ → ℕ → ℕ → Type 0
+IntakeFrom T t u i = (s : ℕ) × StartVersion T u t s × IsIntake T s t i
 
 -- The same, computed
 
@@ -36,15 +45,19 @@ stepsOn W (suc k) = cond (eqb (W k .previous .0) none) (stepsOn W k) (arc (W k .
 unfoldable pub forwardArcs : Trail → List Arc
 forwardArcs T = edgesOn (T .edge) (T .counts .edges) ++ stepsOn (T .version) (T .counts .versions)
 
-unfoldable pub forwardWork : Trail → ℕ → ℕ → List ℕ
-forwardWork T u t = closed (T .counts .versions) (forwardArcs T) (startOf T u t ∷ [])
+-- from the start version of each member
+abbrev pub startsOf : Trail → List ℕ → ℕ → List ℕ
+startsOf T us t = map (λ u. startOf T u t) us
 
-unfoldable pub forwardEntities : Trail → ℕ → ℕ → List ℕ
-forwardEntities T u t = marksBelow (T .version) (forwardWork T u t) (T .counts .versions) (T .counts .entities)
+unfoldable pub forwardWork : Trail → List ℕ → ℕ → List ℕ
+forwardWork T us t = closed (T .counts .versions) (forwardArcs T) (startsOf T us t)
 
--- "It also gives the intake"
-unfoldable pub forwardIntake : Trail → ℕ → ℕ → ℕ
-forwardIntake T u t = intakeOf T (startOf T u t) t
+unfoldable pub forwardEntities : Trail → List ℕ → ℕ → List ℕ
+forwardEntities T us t = marksBelow (T .version) (forwardWork T us t) (T .counts .versions) (T .counts .entities)
+
+-- "It also gives the intake"; of a list "the intake given is the earliest of the members', 0 for an empty list"
+unfoldable pub forwardIntake : Trail → List ℕ → ℕ → ℕ
+forwardIntake T us t = earliest (map (λ s. intakeOf T s t) (startsOf T us t))
 
 -- The call
 
@@ -56,10 +69,10 @@ pub record ForwardTrace : Type 0 where
 abbrev pub forwardTrace : ForwardAnswer → List ℕ → List ℕ → ForwardTrace
 forwardTrace a work marks = record { answer = a; work = work; marks = marks }
 
-unfoldable pub forwardOf : Counts → Tables → ℕ → ℕ → List ℕ → List ℕ → ForwardTrace
-forwardOf c t u time work marks =
-    ifRefused (firstOf (traceChecks c t u work marks))
-    (forwardTrace (record { refusal = numberOf (firstOf (traceChecks c t u work marks)); count = 0; intake = 0 }) work marks)
-    (forwardTrace (record { refusal = 0; count = ones (forwardEntities (trailOf c t) u time); intake = forwardIntake (trailOf c t) u time })
-    (overlaid (forwardWork (trailOf c t) u time) work)
-    (overlaid (forwardEntities (trailOf c t) u time) marks))
+unfoldable pub forwardOf : Counts → Tables → List ℕ → ℕ → List ℕ → List ℕ → ForwardTrace
+forwardOf c t us time work marks =
+    ifRefused (firstOf (traceChecks c t us work marks))
+    (forwardTrace (record { refusal = numberOf (firstOf (traceChecks c t us work marks)); count = 0; intake = 0 }) work marks)
+    (forwardTrace (record { refusal = 0; count = ones (forwardEntities (trailOf c t) us time); intake = forwardIntake (trailOf c t) us time })
+    (overlaid (forwardWork (trailOf c t) us time) work)
+    (overlaid (forwardEntities (trailOf c t) us time) marks))

@@ -16,6 +16,7 @@ pub mod StandsFor
 -- "Traces": the traces, as relations and as computed; the kept log
 pub mod Start
 pub mod Marks
+pub mod Members
 pub mod Backward
 pub mod Forward
 pub mod KeptLog
@@ -31,6 +32,7 @@ pub mod RefusalCases
 pub mod CapacityCases
 pub mod RecordCases
 pub mod TraceCases
+pub mod MemberCases
 pub mod LogCases
 pub mod ListingCases
 pub mod CallCases

@@ -79,8 +79,8 @@ pub record OrderOfRefusals : Type 0 where
   pub trace-16-5 : backwardOf (used 1) unsound 9 5 [] [] .answer ≡ record { refusal = refusalNo Unsound; count = 0 }
   pub trace-5-14 : backwardOf (used 1) full 2 5 [] [] .answer ≡ record { refusal = refusalNo Undeclared; count = 0 }
   pub trace-14-work : backwardOf (used 1) full 1 5 (9 ∷ []) (9 ∷ 9 ∷ []) .answer ≡ record { refusal = refusalNo BufferShort; count = 0 }
-  pub trace-14-marks : forwardOf (used 1) full 1 5 (9 ∷ 9 ∷ []) (9 ∷ []) .answer ≡ record { refusal = refusalNo BufferShort; count = 0; intake = 0 }
-  pub trace-refused-marks : forwardOf (used 1) full 1 5 (9 ∷ []) (8 ∷ 8 ∷ []) .marks ≡ 8 ∷ 8 ∷ []
+  pub trace-14-marks : forwardOf (used 1) full (1 ∷ []) 5 (9 ∷ 9 ∷ []) (9 ∷ []) .answer ≡ record { refusal = refusalNo BufferShort; count = 0; intake = 0 }
+  pub trace-refused-marks : forwardOf (used 1) full (1 ∷ []) 5 (9 ∷ []) (8 ∷ 8 ∷ []) .marks ≡ 8 ∷ 8 ∷ []
   -- "The writer checks 16, 15."
   pub log-16-15 : keptLogOf (used 1) unsound [] .answer ≡ record { refusal = refusalNo Unsound; length = 0 }
   pub log-15 : keptLogOf (used 1) full (replicate 43 9) .answer ≡ record { refusal = refusalNo OutputShort; length = 0 }

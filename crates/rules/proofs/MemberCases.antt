@@ -1,0 +1,28 @@
+-- Lists of entities: every row is computed by the definitions.
+use mathlib.Core.Path.{refl}
+use Rattle.rules.specs.MemberCases.{MemberCases}
+use Rattle.rules.proofs.Computed.{computed}
+
+pub memberCases : MemberCases
+unfolding computed
+memberCases = record {
+  studies = (refl, refl);
+  two = (refl, refl);
+  two-turned = refl;
+  two-repeated = refl;
+  longer-than-the-entities = (refl, refl);
+  first-counts = (refl, refl);
+  last-counts = (refl, refl);
+  intake-and-none = (refl, refl);
+  earliest-of = refl;
+  own-intakes = refl;
+  empty = refl;
+  empty-exact = refl;
+  empty-unsound = refl;
+  empty-work-short = refl;
+  empty-marks-short = refl;
+  undeclared = refl;
+  list-16-5 = refl;
+  list-5-14 = refl;
+  list-14 = refl;
+}
