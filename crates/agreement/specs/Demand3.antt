@@ -12,6 +12,7 @@ use Rattle.rules.specs.Paths.{PathBy, PathFrom, Gains}
 use Rattle.rules.specs.History.{Item, dropped, accepted, intakeTime, Reached}
 use Rattle.rules.specs.PlainList.{worked, itemsOf}
 use Rattle.rules.specs.Backward.{traceRefusals, BackwardTrace, backwardOf}
+use Rattle.rules.specs.Members.{OfAny, IsEarliest}
 use Rattle.rules.specs.Forward.{ForwardTrace, forwardOf}
 use Rattle.rules.specs.Calls.{Call, batch, backward, forward, heldAfter, AllLent, plainAfter}
 use Rattle.closure.specs.ByRelations.{CountOf}
@@ -23,20 +24,22 @@ pub record MarksAre (n : ℕ) (M : ℕ → Type 0) (marks : List ℕ) (count : �
   pub counted : CountOf (λ x. (x < n) × M x) count
 
 -- What a trace, lent work and marks after the records rs, returned and left. "In such a list a trace is refused only with 5 or 14": if, by
--- the plain list, the entity is not declared, or a buffer is shorter than its count.
+-- the plain list, an entity is not declared, or a buffer is shorter than its count.
 
 -- Backward from v at a time: if not refused, exactly the entities with a causal path to v in by then are marked
 pub record BackwardAgrees (rs : List Record) (v time : ℕ) (work marks : List ℕ) (b : BackwardTrace) : Type 0 where
-  pub refusal : b .answer .refusal ≡ numberOf (firstOf (traceRefusals (worked rs .counts) v work marks))
+  pub refusal : b .answer .refusal ≡ numberOf (firstOf (traceRefusals (worked rs .counts) (v ∷ []) work marks))
   pub marks-are : b .answer .refusal ≡ 0 → MarksAre (worked rs .counts .entities) (λ x. PathBy (accepted (itemsOf rs)) time x v) (b .marks) (b .answer .count)
 
--- Forward from u at a time: if not refused, exactly those reached from the latest kept intake at or before it, or from time 0 if there is none;
--- the intake given is that one's time, 0 if there is none; never less than the full log's answer at the time
-pub record ForwardAgrees (rs : List Record) (u time : ℕ) (work marks : List ℕ) (f : ForwardTrace) : Type 0 where
-  pub refusal : f .answer .refusal ≡ numberOf (firstOf (traceRefusals (worked rs .counts) u work marks))
-  pub marks-are : f .answer .refusal ≡ 0 → MarksAre (worked rs .counts .entities) (Reached u time (itemsOf rs)) (f .marks) (f .answer .count)
-  pub intake-is : f .answer .refusal ≡ 0 → f .answer .intake ≡ intakeTime u time (itemsOf rs)
-  pub never-less : f .answer .refusal ≡ 0 → (y : ℕ) → PathFrom (accepted (itemsOf rs)) time u y
+-- Forward from the entities of a list at a time: if not refused, exactly those that one of them reached, each from its own latest kept
+-- intake at or before it, or from time 0 if there is none; the intake given is the earliest of theirs, of each that one's time, 0 if there
+-- is none; never less than the full log's answers at the time. Document 02, 2.2: "The full-log statement holds for the list too."
+pub record ForwardAgrees (rs : List Record) (us : List ℕ) (time : ℕ) (work marks : List ℕ) (f : ForwardTrace) : Type 0 where
+  pub refusal : f .answer .refusal ≡ numberOf (firstOf (traceRefusals (worked rs .counts) us work marks))
+  pub marks-are : f .answer .refusal ≡ 0
+      → MarksAre (worked rs .counts .entities) (OfAny us (λ u. Reached u time (itemsOf rs))) (f .marks) (f .answer .count)
+  pub intake-is : f .answer .refusal ≡ 0 → IsEarliest us (λ u i. i ≡ intakeTime u time (itemsOf rs)) (f .answer .intake)
+  pub never-less : f .answer .refusal ≡ 0 → (y : ℕ) → OfAny us (PathFrom (accepted (itemsOf rs)) time) y
       → (y < worked rs .counts .entities) × (getD (f .marks) y 0 ≡ 1)
 
 -- each trace of the list agrees with the records taken in before it
@@ -45,8 +48,8 @@ TracesAgree [] = Unit {0}
 TracesAgree (batch t file ∷ cs) = TracesAgree cs
 TracesAgree (backward t v time work marks ∷ cs) =
     BackwardAgrees (plainAfter cs) v time work marks (backwardOf (heldAfter cs .counts) t v time work marks) × TracesAgree cs
-TracesAgree (forward t u time work marks ∷ cs) =
-    ForwardAgrees (plainAfter cs) u time work marks (forwardOf (heldAfter cs .counts) t u time work marks) × TracesAgree cs
+TracesAgree (forward t us time work marks ∷ cs) =
+    ForwardAgrees (plainAfter cs) us time work marks (forwardOf (heldAfter cs .counts) t us time work marks) × TracesAgree cs
 
 -- every event by which an entity gained an ancestor is a kept intake of it: by a dropped one none did
 abbrev pub GainsAreKept : List Item → Type 0

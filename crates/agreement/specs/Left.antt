@@ -20,7 +20,7 @@ pub record Leaving : Type 0 where
   -- a trace leaves what it was lent
   pub backward : (cs : List Call) (c : Counts) (t : Tables) → LeftBy cs c t → (v time : ℕ) (work marks : List ℕ)
       → LeftBy (backward t v time work marks ∷ cs) c t
-  pub forward : (cs : List Call) (c : Counts) (t : Tables) → LeftBy cs c t → (u time : ℕ) (work marks : List ℕ)
-      → LeftBy (forward t u time work marks ∷ cs) c t
+  pub forward : (cs : List Call) (c : Counts) (t : Tables) → LeftBy cs c t → (us : List ℕ) (time : ℕ) (work marks : List ℕ)
+      → LeftBy (forward t us time work marks ∷ cs) c t
   -- the rows in use may be moved to other tables
   pub moved : (cs : List Call) (c : Counts) (t : Tables) → LeftBy cs c t → (other : Tables) → Lent (held c t) other → LeftBy cs c other

@@ -3,6 +3,7 @@ pub mod Left
 -- the claims
 pub mod Demand2
 pub mod Demand3
+pub mod OneEntity
 pub mod RoundTrip
 -- wrong answers that the claims rule out
 pub mod Refuted

@@ -28,9 +28,9 @@ pub record BackwardPromise (c : Counts) (t : Tables) (v time : ℕ) (work marks 
   pub traced : IsBackwardTrace c t v time work marks b
   pub agrees : (cs : List Call) → LeftBy cs c t → BackwardAgrees (plainAfter cs) v time work marks b
 
-pub record ForwardPromise (c : Counts) (t : Tables) (u time : ℕ) (work marks : List ℕ) (f : ForwardTrace) : Type 0 where
-  pub traced : IsForwardTrace c t u time work marks f
-  pub agrees : (cs : List Call) → LeftBy cs c t → ForwardAgrees (plainAfter cs) u time work marks f
+pub record ForwardPromise (c : Counts) (t : Tables) (us : List ℕ) (time : ℕ) (work marks : List ℕ) (f : ForwardTrace) : Type 0 where
+  pub traced : IsForwardTrace c t us time work marks f
+  pub agrees : (cs : List Call) → LeftBy cs c t → ForwardAgrees (plainAfter cs) us time work marks f
 
 -- the log that was written is taken in again
 abbrev pub LogPromise : Counts → Tables → List ℕ → KeptLog → Type 0

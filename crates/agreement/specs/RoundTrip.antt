@@ -30,8 +30,8 @@ pub record SameTrail (T U : Trail) : Type 0 where
 pub record SameCalls (c : Counts) (t : Tables) (c′ : Counts) (t′ : Tables) : Type 0 where
   pub backward-answer : (v time : ℕ) (work marks : List ℕ) → backwardOf c′ t′ v time work marks .answer ≡ backwardOf c t v time work marks .answer
   pub backward-marks : (v time : ℕ) (work marks : List ℕ) → backwardOf c′ t′ v time work marks .marks ≡ backwardOf c t v time work marks .marks
-  pub forward-answer : (u time : ℕ) (work marks : List ℕ) → forwardOf c′ t′ u time work marks .answer ≡ forwardOf c t u time work marks .answer
-  pub forward-marks : (u time : ℕ) (work marks : List ℕ) → forwardOf c′ t′ u time work marks .marks ≡ forwardOf c t u time work marks .marks
+  pub forward-answer : (us : List ℕ) (time : ℕ) (work marks : List ℕ) → forwardOf c′ t′ us time work marks .answer ≡ forwardOf c t us time work marks .answer
+  pub forward-marks : (us : List ℕ) (time : ℕ) (work marks : List ℕ) → forwardOf c′ t′ us time work marks .marks ≡ forwardOf c t us time work marks .marks
   pub log : (out : List ℕ) → keptLogOf c′ t′ out ≡ keptLogOf c t out
 
 -- the batch takes in every record of the log, and the trail that it leaves is the same, but for counts and last times of edges
