@@ -31,9 +31,10 @@ pub record BackwardAgrees (rs : List Record) (v time : ℕ) (work marks : List �
   pub refusal : b .answer .refusal ≡ numberOf (firstOf (traceRefusals (worked rs .counts) (v ∷ []) work marks))
   pub marks-are : b .answer .refusal ≡ 0 → MarksAre (worked rs .counts .entities) (λ x. PathBy (accepted (itemsOf rs)) time x v) (b .marks) (b .answer .count)
 
--- Forward from the entities of a list at a time: if not refused, exactly those that one of them reached, each from its own latest kept
--- intake at or before it, or from time 0 if there is none; the intake given is the earliest of theirs, of each that one's time, 0 if there
--- is none; never less than the full log's answers at the time. Document 02, 2.2: "The full-log statement holds for the list too."
+-- Forward from the members of a list at a time: if not refused, exactly the entities reached from one of them are marked, from each by its own
+-- latest kept intake at or before the time, or from time 0 if it has none; the intake given is the earliest of the members', where a member's
+-- is the time of that kept intake, 0 if it has none, and 0 for an empty list; never less than the full log's answers at the time, taken
+-- together. Document 02, 2.2: "The full-log statement holds for the list too."
 pub record ForwardAgrees (rs : List Record) (us : List ℕ) (time : ℕ) (work marks : List ℕ) (f : ForwardTrace) : Type 0 where
   pub refusal : f .answer .refusal ≡ numberOf (firstOf (traceRefusals (worked rs .counts) us work marks))
   pub marks-are : f .answer .refusal ≡ 0

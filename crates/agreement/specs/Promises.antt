@@ -23,7 +23,7 @@ pub record BatchPromise (c : Counts) (t : Tables) (file : List ℕ) (b : Batched
   pub answer : (cs : List Call) → LeftBy cs c t → Answered (plainAfter cs) t file (plainAfter (batch t file ∷ cs)) (b .answer)
   pub holds : (cs : List Call) → LeftBy cs c t → Holds (plainAfter (batch t file ∷ cs)) (b .counts) (b .tables)
 
--- the trace is the one that document 01's relations say, and agrees with the full list
+-- the trace is the one that the documents' relations say, and agrees with the full list
 pub record BackwardPromise (c : Counts) (t : Tables) (v time : ℕ) (work marks : List ℕ) (b : BackwardTrace) : Type 0 where
   pub traced : IsBackwardTrace c t v time work marks b
   pub agrees : (cs : List Call) → LeftBy cs c t → BackwardAgrees (plainAfter cs) v time work marks b

@@ -1,51 +1,112 @@
 -- The checks of a trace: by the number that it returns, and what is known where they pass.
-use Prim.Native.Nat.{ℕ, _≤_}
+use Prim.Native.Nat.{ℕ, _≤_, _<_}
 use native.Mathlib.Omega.{arith}
+use native.Mathlib.Decide.{decLe}
 use mathlib.Core.Path.{_≡_, refl, sym, _∙_}
+use mathlib.Core.Logic.{_⊎_, inl, inr}
 use mathlib.Core.Bool.{Bool, true, false, not, cond}
-use mathlib.Core.List.{List}
+use mathlib.Core.List.{List, [], _∷_, _++_, List·Memᴰ, List·Memᴰ·head, List·Memᴰ·tail, List·Memᴰ·cases-cons, List·Memᴰ·not-nil}
 use lib.ListN.{length}
 use lib.Dec.{leb, ltb}
-use borrow.Author.Tests.{not-false, ltb-false}
+use borrow.Author.Tests.{not-false, ltb-false, leb-false, lt-leb}
 use Rattle.refusals.specs.declared.Checked.{Checked}
 use Rattle.refusals.specs.declared.Checked.the-variants.{Passed, Refused}
 use Rattle.refusals.specs.declared.Refusal.the-variants.{Unsound, Undeclared, BufferShort}
-use Rattle.refusals.specs.Refusals.{firstOf, numberOf}
-use Rattle.refusals.proofs.Checks.{passed-all-false}
+use Rattle.refusals.specs.Refusals.{Check, firstOf, numberOf}
+use Rattle.refusals.proofs.Checks.{AllFalse, passed-all-false}
 use Rattle.rows.specs.declared.Counts.{Counts}
 use Rattle.rows.specs.Capacity.{versionCapacity, edgeCapacity}
 use Rattle.rules.specs.Trail.{Tables, capacityOf, trailOf, none}
 use Rattle.rules.specs.Sound.{isSound}
-use Rattle.rules.specs.Backward.{traceChecks}
+use Rattle.rules.specs.Backward.{undeclaredChecks, bufferChecks, traceRefusals, traceChecks}
 use Rattle.soundness.specs.Facts.{RowFacts}
 use Rattle.soundness.proofs.Facts.{sound-counts, sound-rows}
+use Rattle.closure.specs.Arcs.{AllBelow}
 
-pub checked-passed : (c : Counts) (t : Tables) (x : ℕ) (work marks : List ℕ) (k : Checked) → k ≡ firstOf (traceChecks c t x work marks) → k ≡ Passed
-    → firstOf (traceChecks c t x work marks) ≡ Passed
-checked-passed c t x work marks k p q = sym p ∙ q
+-- The checks of the members
 
--- "A trace checks 16, 5, 14."
-abbrev firstChecked : Bool → Bool → Bool → Bool → Checked
-firstChecked sound undeclared work-short marks-short =
-    cond (not sound) (Refused Unsound) (cond undeclared (Refused Undeclared) (cond work-short (Refused BufferShort) (cond marks-short (Refused BufferShort) Passed)))
-
-module _ (c : Counts) (t : Tables) (x : ℕ) (work marks : List ℕ) where
-  -- a trace that is not refused passed its checks
-  pub number-passed : numberOf (firstOf (traceChecks c t x work marks)) ≡ 0 → firstOf (traceChecks c t x work marks) ≡ Passed
-  unfolding traceChecks firstOf
-  number-passed = go (isSound (capacityOf t) (trailOf c t)) (leb (c .entities) x) (ltb (length work) (c .versions)) (ltb (length marks) (c .entities))
+module _ (c : Counts) where
+  -- each is declared, or one is not
+  pub declared-or-not : (xs : List ℕ) → AllBelow (c .entities) xs ⊎ ((x : ℕ) × List·Memᴰ x xs × (c .entities ≤ x))
+  declared-or-not [] = inl (λ x m. absurd (List·Memᴰ·not-nil m))
+  declared-or-not (x ∷ xs) = go (decLe (c .entities) x) (declared-or-not xs)
     where
-      go : (s u v w : Bool) → numberOf (firstChecked s u v w) ≡ 0 → firstChecked s u v w ≡ Passed
-      go false u v w q = absurd (omega arith)
-      go true true v w q = absurd (omega arith)
-      go true false true w q = absurd (omega arith)
-      go true false false true q = absurd (omega arith)
-      go true false false false q = refl
+      go : Dec (c .entities ≤ x) → AllBelow (c .entities) xs ⊎ ((y : ℕ) × List·Memᴰ y xs × (c .entities ≤ y))
+          → AllBelow (c .entities) (x ∷ xs) ⊎ ((y : ℕ) × List·Memᴰ y (x ∷ xs) × (c .entities ≤ y))
+      go (yes l) z = inr (x, List·Memᴰ·head refl, l)
+      go (no l) (inr (y, m, k)) = inr (y, List·Memᴰ·tail m, k)
+      go (no l) (inl h) = inl (λ y m. at y (List·Memᴰ·cases-cons m))
+        where
+          at : (y : ℕ) → (y ≡ x) ⊎ List·Memᴰ y xs → y < c .entities
+          at y (inl q) = omega arith
+          at y (inr m) = h y m
 
-module _ (c : Counts) (t : Tables) (x : ℕ) (work marks : List ℕ) (p : firstOf (traceChecks c t x work marks) ≡ Passed) where
+module _ (c : Counts) (cs : List Check) where
+  -- where each is, the checks after them decide
+  pub declared-next : (xs : List ℕ) → AllBelow (c .entities) xs → firstOf (undeclaredChecks c xs ++ cs) ≡ firstOf cs
+  unfolding firstOf
+  declared-next [] h = refl
+  declared-next (x ∷ xs) h = rw (lt-leb (c .entities) x (h x (List·Memᴰ·head refl))) (declared-next xs (λ y m. h y (List·Memᴰ·tail m)))
+
+  -- "One undeclared member gives 5"
+  pub undeclared-refused : (xs : List ℕ) (x : ℕ) → List·Memᴰ x xs → c .entities ≤ x → firstOf (undeclaredChecks c xs ++ cs) ≡ Refused Undeclared
+  unfolding firstOf
+  undeclared-refused [] x m l = absurd (List·Memᴰ·not-nil m)
+  undeclared-refused (y ∷ ys) x m l = go (List·Memᴰ·cases-cons m) (leb (c .entities) y) refl (λ k. undeclared-refused ys x k l)
+    where
+      go : (x ≡ y) ⊎ List·Memᴰ x ys → (b : Bool) → leb (c .entities) y ≡ b → (List·Memᴰ x ys → firstOf (undeclaredChecks c ys ++ cs) ≡ Refused Undeclared)
+          → cond b (Refused Undeclared) (firstOf (undeclaredChecks c ys ++ cs)) ≡ Refused Undeclared
+      go z true q ih = refl
+      go (inl e) false q ih = absurd (omega (arith, leb-false (c .entities) y q))
+      go (inr k) false q ih = ih k
+
+  all-declared : (xs : List ℕ) → AllFalse (undeclaredChecks c xs ++ cs) → AllBelow (c .entities) xs × AllFalse cs
+  all-declared [] h = (λ x m. absurd (List·Memᴰ·not-nil m), h)
+  all-declared (x ∷ xs) h = let r = all-declared xs (h .1) in (λ y m. at y (List·Memᴰ·cases-cons m) (r .0), r .1)
+    where
+      at : (y : ℕ) → (y ≡ x) ⊎ List·Memᴰ y xs → AllBelow (c .entities) xs → y < c .entities
+      at y (inl q) z = omega (arith, leb-false (c .entities) x (h .0))
+      at y (inr m) z = z y m
+
+-- All checks
+
+pub checked-passed : (c : Counts) (t : Tables) (xs work marks : List ℕ) (k : Checked) → k ≡ firstOf (traceChecks c t xs work marks) → k ≡ Passed
+    → firstOf (traceChecks c t xs work marks) ≡ Passed
+checked-passed c t xs work marks k p q = sym p ∙ q
+
+module _ (c : Counts) (t : Tables) (xs work marks : List ℕ) where
+  refusals-passed : (ys : List ℕ) → numberOf (firstOf (traceRefusals c ys work marks)) ≡ 0 → firstOf (traceRefusals c ys work marks) ≡ Passed
+  unfolding firstOf
+  refusals-passed [] = go (ltb (length work) (c .versions)) (ltb (length marks) (c .entities))
+    where
+      go : (v w : Bool) → numberOf (cond v (Refused BufferShort) (cond w (Refused BufferShort) Passed)) ≡ 0 → cond v (Refused BufferShort) (cond w (Refused BufferShort) Passed) ≡ Passed
+      go true w q = absurd (omega arith)
+      go false true q = absurd (omega arith)
+      go false false q = refl
+  refusals-passed (y ∷ ys) = go (leb (c .entities) y) (refusals-passed ys)
+    where
+      go : (b : Bool) → (numberOf (firstOf (traceRefusals c ys work marks)) ≡ 0 → firstOf (traceRefusals c ys work marks) ≡ Passed)
+          → numberOf (cond b (Refused Undeclared) (firstOf (traceRefusals c ys work marks))) ≡ 0 → cond b (Refused Undeclared) (firstOf (traceRefusals c ys work marks)) ≡ Passed
+      go true ih q = absurd (omega arith)
+      go false ih q = ih q
+
+  -- a trace that is not refused passed its checks
+  pub number-passed : numberOf (firstOf (traceChecks c t xs work marks)) ≡ 0 → firstOf (traceChecks c t xs work marks) ≡ Passed
+  unfolding traceChecks firstOf
+  number-passed = go (isSound (capacityOf t) (trailOf c t))
+    where
+      go : (s : Bool) → numberOf (cond (not s) (Refused Unsound) (firstOf (traceRefusals c xs work marks))) ≡ 0
+          → cond (not s) (Refused Unsound) (firstOf (traceRefusals c xs work marks)) ≡ Passed
+      go false q = absurd (omega arith)
+      go true q = refusals-passed xs q
+
+module _ (c : Counts) (t : Tables) (xs work marks : List ℕ) (p : firstOf (traceChecks c t xs work marks) ≡ Passed) where
+  all-false : AllFalse (traceChecks c t xs work marks)
+  all-false = passed-all-false _ p
+
   passed-sound : isSound (capacityOf t) (trailOf c t) ≡ true
   unfolding traceChecks
-  passed-sound = not-false _ (passed-all-false _ p .0)
+  passed-sound = not-false _ (all-false .0)
 
   pub passed-rows : RowFacts (trailOf c t)
   passed-rows = sound-rows (capacityOf t) (trailOf c t) passed-sound
@@ -61,10 +122,20 @@ module _ (c : Counts) (t : Tables) (x : ℕ) (work marks : List ℕ) (p : firstO
   pub edges-fit : c .edges ≤ edgeCapacity (t .edges)
   edges-fit = sound-counts (capacityOf t) (trailOf c t) passed-sound .edges-in
 
-  pub work-fits : c .versions ≤ length work
+  checked : AllBelow (c .entities) xs × AllFalse (bufferChecks c work marks)
   unfolding traceChecks
-  work-fits = ltb-false _ _ (passed-all-false _ p .1 .1 .0)
+  checked = all-declared c (bufferChecks c work marks) xs (all-false .1)
+
+  -- a trace whose checks pass is of entities that are declared
+  pub passed-entities : AllBelow (c .entities) xs
+  passed-entities = checked .0
+
+  pub work-fits : c .versions ≤ length work
+  work-fits = ltb-false _ _ (checked .1 .0)
 
   pub marks-fit : c .entities ≤ length marks
-  unfolding traceChecks
-  marks-fit = ltb-false _ _ (passed-all-false _ p .1 .1 .1 .0)
+  marks-fit = ltb-false _ _ (checked .1 .1 .0)
+
+-- of one entity
+pub passed-entity : (c : Counts) (t : Tables) (x : ℕ) (work marks : List ℕ) → firstOf (traceChecks c t (x ∷ []) work marks) ≡ Passed → x < c .entities
+passed-entity c t x work marks p = passed-entities c t (x ∷ []) work marks p x (List·Memᴰ·head refl)

@@ -14,17 +14,17 @@ use Rattle.closure.proofs.Steady.{Steady, passes-enough}
 
 -- the seeds
 
-length-seeded : (n : ℕ) (ss : List ℕ) → length (seeded n ss) ≡ n
+pub length-seeded : (n : ℕ) (ss : List ℕ) → length (seeded n ss) ≡ n
 unfolding seeded
 length-seeded n [] = length-replicate {A = ℕ} n 0
 length-seeded n (s ∷ ss) = length-set (seeded n ss) s 1 ∙ length-seeded n ss
 
-bits-seeded : (n : ℕ) (ss : List ℕ) → Bits (seeded n ss)
+pub bits-seeded : (n : ℕ) (ss : List ℕ) → Bits (seeded n ss)
 unfolding seeded
 bits-seeded n [] = bits-zeros n
 bits-seeded n (s ∷ ss) = bits-set (seeded n ss) s (bits-seeded n ss)
 
-marked-seeded : (n : ℕ) (ss : List ℕ) (b : ℕ) → b < n → List·Memᴰ b ss → Marked (seeded n ss) b
+pub marked-seeded : (n : ℕ) (ss : List ℕ) (b : ℕ) → b < n → List·Memᴰ b ss → Marked (seeded n ss) b
 unfolding seeded
 marked-seeded n [] b l k = absurd (List·Memᴰ·not-nil k)
 marked-seeded n (s ∷ ss) b l k = go (List·Memᴰ·cases-cons k) (λ k′. marked-seeded n ss b l k′)
@@ -33,7 +33,7 @@ marked-seeded n (s ∷ ss) b l k = go (List·Memᴰ·cases-cons k) (λ k′. mar
     go (inl q) r = rw (← q) (marked-set-same (seeded n ss) b (omega (arith, length-seeded n ss)))
     go (inr k′) r = marked-set (seeded n ss) s b (r k′)
 
-seeded-marked : (n : ℕ) (ss : List ℕ) (b : ℕ) → Marked (seeded n ss) b → List·Memᴰ b ss
+pub seeded-marked : (n : ℕ) (ss : List ℕ) (b : ℕ) → Marked (seeded n ss) b → List·Memᴰ b ss
 unfolding seeded
 seeded-marked n [] b o = absurd (omega (arith, getD-zeros n b))
 seeded-marked n (s ∷ ss) b o = go (marked-set-cases (seeded n ss) s b o) (λ z. seeded-marked n ss b z)

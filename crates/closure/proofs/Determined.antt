@@ -5,11 +5,10 @@ use mathlib.Core.Path.{_≡_, sym, _∙_, subst}
 use mathlib.Core.List.{List}
 use Rattle.rows.specs.declared.Counts.{Counts}
 use Rattle.rules.specs.Trail.{Tables, trailOf}
-use Rattle.rules.specs.Start.{IsIntake}
 use Rattle.rules.specs.Backward.{BackwardMarks, BackwardTrace}
-use Rattle.rules.specs.Forward.{ForwardMarks, ForwardTrace}
+use Rattle.rules.specs.Forward.{ForwardTrace}
 use Rattle.rules.proofs.Start.{start-one}
-use Rattle.rules.proofs.Intake.{intake-one}
+use Rattle.rules.proofs.Members.{earliest-one}
 use Rattle.closure.specs.ByRelations.{Marking, IsBackwardTrace, IsForwardTrace}
 use Rattle.closure.proofs.Marking.{marking-one}
 use Rattle.closure.proofs.Traced.{BackwardTraced, ForwardTraced}
@@ -35,16 +34,15 @@ module _ (c : Counts) (t : Tables) (x time : ℕ) (work marks : List ℕ) where
             ∙ (λ i. record { answer = record { refusal = backward-number i; count = 0 }; work = work; marks = marks })
             ∙ sym (q .refused (λ y. z (backward-number ∙ y)))
 
-  module _ (a b : ForwardTrace) (p : IsForwardTrace c t x time work marks a) (q : IsForwardTrace c t x time work marks b) where
+module _ (c : Counts) (t : Tables) (us : List ℕ) (time : ℕ) (work marks : List ℕ) where
+  module _ (a b : ForwardTrace) (p : IsForwardTrace c t us time work marks a) (q : IsForwardTrace c t us time work marks b) where
     forward-number : a .answer .refusal ≡ b .answer .refusal
     forward-number = p .refusal ∙ sym (q .refusal)
 
-    forward-traced-one : ForwardTraced (trailOf c t) x time work marks a → ForwardTraced (trailOf c t) x time work marks b → a ≡ b
+    forward-traced-one : ForwardTraced (trailOf c t) us time work marks a → ForwardTraced (trailOf c t) us time work marks b → a ≡ b
     forward-traced-one f g =
-        let s = start-one (f .1) (g .1) in
-        let m = subst (λ z. Marking (trailOf c t) (ForwardMarks (trailOf c t) z) work marks (a .work) (a .marks) (a .answer .count)) s (f .3) in
-        let e = marking-one m (g .3) in
-        let j = intake-one (trailOf c t) (g .0) time (subst (λ z. IsIntake (trailOf c t) z time (a .answer .intake)) s (f .2)) (g .2) in
+        let e = marking-one (f .1) (g .1) in
+        let j = earliest-one (f .0) (g .0) in
         λ i. record { answer = record { refusal = forward-number i; count = e .2 i; intake = j i }; work = e .0 i; marks = e .1 i }
 
     pub forward-one : a ≡ b

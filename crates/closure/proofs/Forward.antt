@@ -1,13 +1,15 @@
 -- The versions that a forward trace marks (document 01, "Traces"), where the rows are as in sound tables.
 use Prim.Native.Nat.{ℕ, _<_}
 use mathlib.Core.Path.{_≡_, refl, sym, _∙_, ap, subst}
-use mathlib.Core.Logic.{_⊎_, inl, inr, _↔_}
-use mathlib.Core.List.{[], _∷_, List·Memᴰ, List·Memᴰ·head, List·Memᴰ·append-cases, List·Memᴰ·eq-of-singleton, Memᴰ·append-left, Memᴰ·append-right}
+use mathlib.Core.Logic.{_⊎_, inl, inr, _↔_, Iff·trans}
+use mathlib.Core.List.{List, List·Memᴰ, List·Memᴰ·append-cases, Memᴰ·append-left, Memᴰ·append-right}
 use lib.ListN.{length, getD}
 use Rattle.rules.specs.Trail.{Trail, none}
 use Rattle.rules.specs.Start.{startOf}
 use Rattle.rules.specs.Marks.{Arc, arc, closed}
-use Rattle.rules.specs.Forward.{ForwardMarks, edgesOn, stepsOn, forwardArcs, forwardWork}
+use Rattle.rules.specs.Members.{OfAny}
+use Rattle.rules.specs.Forward.{ForwardMarks, edgesOn, stepsOn, forwardArcs, startsOf, forwardWork}
+use Rattle.rules.proofs.Members.{mem-map, ofAny-map}
 use Rattle.soundness.specs.Facts.{RowFacts}
 use Rattle.closure.specs.Arcs.{ReachedBy, Marked, EndBelow, AllBelow}
 use Rattle.closure.proofs.Closed.{length-closed, closed-iff}
@@ -48,42 +50,44 @@ module _ (T : Trail) where
       go (inl (k, l, e)) = rw e (f .edge k l .to-in)
       go (inr (k, l, c, e)) = rw e l
 
-  module _ (s : ℕ) where
-    reached-marks : {b : ℕ} → ReachedBy (forwardArcs T) (s ∷ []) b → ForwardMarks T s b
-    reached-marks (ReachedBy.seed k) = ForwardMarks.start (List·Memᴰ·eq-of-singleton k)
-    reached-marks (ReachedBy.along {a = a} {b = b} x r m q z) = go (reached-marks r) (forwardArcs-iff x .0 m)
+  -- from several versions is reached what one of them marks alone
+  module _ (ss : List ℕ) where
+    reached-marks : {b : ℕ} → ReachedBy (forwardArcs T) ss b → OfAny ss (ForwardMarks T) b
+    reached-marks (ReachedBy.seed {b = b} k) = (b, k, ForwardMarks.start refl)
+    reached-marks (ReachedBy.along {a = a} {b = b} x r m q z) = let o = reached-marks r in (o .0, o .1, go (o .0) (o .2) (forwardArcs-iff x .0 m))
       where
-        go : ForwardMarks T s a → EdgeArc x ⊎ StepArc x → ForwardMarks T s b
-        go d (inl (k, l, e)) = ForwardMarks.leaving k l (subst (ForwardMarks T s) (sym q ∙ ap (λ (y : Arc). y .from) e) d) (sym z ∙ ap (λ (y : Arc). y .to) e)
-        go d (inr (k, l, c, e)) =
+        go : (s : ℕ) → ForwardMarks T s a → EdgeArc x ⊎ StepArc x → ForwardMarks T s b
+        go s d (inl (k, l, e)) = ForwardMarks.leaving k l (subst (ForwardMarks T s) (sym q ∙ ap (λ (y : Arc). y .from) e) d) (sym z ∙ ap (λ (y : Arc). y .to) e)
+        go s d (inr (k, l, c, e)) =
             let i : k ≡ b = sym (ap (λ (y : Arc). y .to) e) ∙ z in
             subst (ForwardMarks T s) i (ForwardMarks.next d l c (sym q ∙ ap (λ (y : Arc). y .from) e))
 
-    marks-reached : {b : ℕ} → ForwardMarks T s b → ReachedBy (forwardArcs T) (s ∷ []) b
-    marks-reached (ForwardMarks.start q) = ReachedBy.seed (List·Memᴰ·head q)
-    marks-reached (ForwardMarks.leaving k l d q) =
-        ReachedBy.along (arc (T .edge k .from .0) (T .edge k .to .0)) (marks-reached d) (forwardArcs-iff _ .1 (inl (k, l, refl))) refl (sym q)
-    marks-reached (ForwardMarks.next {b = b} d l c q) =
-        ReachedBy.along (arc (T .version b .previous .0) b) (marks-reached d) (forwardArcs-iff _ .1 (inr (b, l, c, refl))) (sym q) refl
+    marks-reached : (s : ℕ) → List·Memᴰ s ss → {b : ℕ} → ForwardMarks T s b → ReachedBy (forwardArcs T) ss b
+    marks-reached s i (ForwardMarks.start q) = ReachedBy.seed (subst (λ (y : ℕ). List·Memᴰ y ss) (sym q) i)
+    marks-reached s i (ForwardMarks.leaving k l d q) =
+        ReachedBy.along (arc (T .edge k .from .0) (T .edge k .to .0)) (marks-reached s i d) (forwardArcs-iff _ .1 (inl (k, l, refl))) refl (sym q)
+    marks-reached s i (ForwardMarks.next {b = b} d l c q) =
+        ReachedBy.along (arc (T .version b .previous .0) b) (marks-reached s i d) (forwardArcs-iff _ .1 (inr (b, l, c, refl))) (sym q) refl
 
-    module _ (f : RowFacts T) (h : s < T .counts .versions) where
-      pub forwardMarks-in : {b : ℕ} → ForwardMarks T s b → b < T .counts .versions
-      forwardMarks-in (ForwardMarks.start q) = rw q h
-      forwardMarks-in (ForwardMarks.leaving k l d q) = rw q (f .edge k l .to-in)
-      forwardMarks-in (ForwardMarks.next d l c q) = l
+    marks-iff : RowFacts T → AllBelow (T .counts .versions) ss → (w : ℕ) → Marked (closed (T .counts .versions) (forwardArcs T) ss) w ↔ OfAny ss (ForwardMarks T) w
+    marks-iff f h w =
+        let o = closed-iff (T .counts .versions) (forwardArcs T) ss (forwardArcs-ends f) h w in
+        (λ q. reached-marks (o .0 q), λ z. o .1 (marks-reached (z .0) (z .1) (z .2)))
 
-      seeds : AllBelow (T .counts .versions) (s ∷ [])
-      seeds b m = rw (List·Memᴰ·eq-of-singleton m) h
+  pub forwardMarks-in : (s : ℕ) → RowFacts T → s < T .counts .versions → {b : ℕ} → ForwardMarks T s b → b < T .counts .versions
+  forwardMarks-in s f h (ForwardMarks.start q) = rw q h
+  forwardMarks-in s f h (ForwardMarks.leaving k l d q) = rw q (f .edge k l .to-in)
+  forwardMarks-in s f h (ForwardMarks.next d l c q) = l
 
-      marks-iff : (w : ℕ) → Marked (closed (T .counts .versions) (forwardArcs T) (s ∷ [])) w ↔ ForwardMarks T s w
-      marks-iff w = let o = closed-iff (T .counts .versions) (forwardArcs T) (s ∷ []) (forwardArcs-ends f) seeds w in (λ q. reached-marks (o .0 q), λ d. o .1 (marks-reached d))
-
-pub length-forwardWork : (T : Trail) (x t : ℕ) → length (forwardWork T x t) ≡ T .counts .versions
+pub length-forwardWork : (T : Trail) (us : List ℕ) (t : ℕ) → length (forwardWork T us t) ≡ T .counts .versions
 unfolding forwardWork
-length-forwardWork T x t = length-closed (T .counts .versions) (forwardArcs T) (startOf T x t ∷ [])
+length-forwardWork T us t = length-closed (T .counts .versions) (forwardArcs T) (startsOf T us t)
 
-module _ (T : Trail) (f : RowFacts T) (x t : ℕ) (h : x < T .counts .entities) where
-  -- marked are the versions that the document says
-  pub forwardWork-iff : (w : ℕ) → getD (forwardWork T x t) w 0 ≡ 1 ↔ ForwardMarks T (startOf T x t) w
+module _ (T : Trail) (f : RowFacts T) (us : List ℕ) (t : ℕ) (h : AllBelow (T .counts .entities) us) where
+  pub starts-below : AllBelow (T .counts .versions) (startsOf T us t)
+  starts-below s m = let z = mem-map (λ u. startOf T u t) us s .0 m in rw (z .2) (start-in T f (z .0) t (h (z .0) (z .1)))
+
+  -- marked are the versions that the documents say
+  pub forwardWork-iff : (w : ℕ) → getD (forwardWork T us t) w 0 ≡ 1 ↔ OfAny us (λ u. ForwardMarks T (startOf T u t)) w
   unfolding forwardWork
-  forwardWork-iff w = marks-iff T (startOf T x t) f (start-in T f x t h) w
+  forwardWork-iff w = Iff·trans (marks-iff T (startsOf T us t) f starts-below w) (ofAny-map (ForwardMarks T) (λ u. startOf T u t) us w)

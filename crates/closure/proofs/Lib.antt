@@ -15,6 +15,7 @@ pub mod Forward
 pub mod Entities
 pub mod Ones
 pub mod Traces
+pub mod FromStart
 -- the calls
 pub mod Checked
 pub mod Descending
@@ -24,5 +25,8 @@ pub mod TraceCalls
 pub mod Traced
 pub mod Determined
 pub mod ByRelations
+-- lists of entities
+pub mod Union
+pub mod Members
 -- trails with the same rows in use
 pub mod SameFacts

@@ -4,18 +4,14 @@ use mathlib.Core.Path.{_≡_}
 use mathlib.Core.Logic.{_↔_}
 use mathlib.Core.List.{List}
 use lib.ListN.{length, getD}
-use borrow.Author.Tests.{leb-false}
-use Rattle.refusals.specs.declared.Checked.the-variants.{Passed}
-use Rattle.refusals.specs.Refusals.{firstOf}
-use Rattle.refusals.proofs.Checks.{passed-all-false}
-use Rattle.rows.specs.declared.Counts.{Counts}
-use Rattle.rules.specs.Trail.{Tables, Trail, ownerOf}
+use Rattle.rules.specs.Trail.{Trail, ownerOf}
 use Rattle.rules.specs.Start.{startOf}
 use Rattle.rules.specs.Marks.{marksBelow}
-use Rattle.rules.specs.Backward.{BackwardMarks, backwardWork, backwardEntities, traceChecks}
+use Rattle.rules.specs.Backward.{BackwardMarks, backwardWork, backwardEntities}
+use Rattle.rules.specs.Members.{OfAny}
 use Rattle.rules.specs.Forward.{ForwardMarks, forwardWork, forwardEntities}
 use Rattle.soundness.specs.Facts.{RowFacts}
-use Rattle.closure.specs.Arcs.{Marked, Bits}
+use Rattle.closure.specs.Arcs.{Marked, Bits, AllBelow}
 use Rattle.closure.proofs.Start.{start-in}
 use Rattle.closure.proofs.Entities.{length-marksBelow, bits-marksBelow, marksBelow-iff}
 use Rattle.closure.proofs.Backward.{backwardMarks-in, backwardWork-iff}
@@ -30,18 +26,13 @@ pub bits-backwardEntities : (T : Trail) (v t : ℕ) → Bits (backwardEntities T
 unfolding backwardEntities
 bits-backwardEntities T v t = bits-marksBelow (T .version) (backwardWork T v t) (T .counts .versions) (T .counts .entities)
 
-pub length-forwardEntities : (T : Trail) (u t : ℕ) → length (forwardEntities T u t) ≡ T .counts .entities
+pub length-forwardEntities : (T : Trail) (us : List ℕ) (t : ℕ) → length (forwardEntities T us t) ≡ T .counts .entities
 unfolding forwardEntities
-length-forwardEntities T u t = length-marksBelow (T .version) (forwardWork T u t) (T .counts .versions) (T .counts .entities)
+length-forwardEntities T us t = length-marksBelow (T .version) (forwardWork T us t) (T .counts .versions) (T .counts .entities)
 
-pub bits-forwardEntities : (T : Trail) (u t : ℕ) → Bits (forwardEntities T u t)
+pub bits-forwardEntities : (T : Trail) (us : List ℕ) (t : ℕ) → Bits (forwardEntities T us t)
 unfolding forwardEntities
-bits-forwardEntities T u t = bits-marksBelow (T .version) (forwardWork T u t) (T .counts .versions) (T .counts .entities)
-
--- a trace whose checks pass is of an entity that is declared
-pub passed-entity : (c : Counts) (t : Tables) (x : ℕ) (work marks : List ℕ) → firstOf (traceChecks c t x work marks) ≡ Passed → x < c .entities
-unfolding traceChecks
-passed-entity c t x work marks p = leb-false _ _ (passed-all-false _ p .1 .0)
+bits-forwardEntities T us t = bits-marksBelow (T .version) (forwardWork T us t) (T .counts .versions) (T .counts .entities)
 
 -- where the work buffer marks the versions of a set, the mark buffer marks their entities
 module _ (T : Trail) (work : List ℕ) (M : ℕ → Type 0) (is : (w : ℕ) → Marked work w ↔ M w) (inside : (w : ℕ) → M w → w < T .counts .versions) where
@@ -60,9 +51,9 @@ module _ (T : Trail) (f : RowFacts T) where
       entities-iff T (backwardWork T v t) (BackwardMarks T (startOf T v t) t) (backwardWork-iff T f v t h)
       (λ w d. backwardMarks-in T (startOf T v t) t f (start-in T f v t h) d) x
 
-  pub forward-marks : (u t x : ℕ) → u < T .counts .entities → x < T .counts .entities
-      → getD (forwardEntities T u t) x 0 ≡ 1 ↔ ((w : ℕ) × ForwardMarks T (startOf T u t) w × (ownerOf T w ≡ x))
+  pub forward-marks : (us : List ℕ) (t x : ℕ) → AllBelow (T .counts .entities) us → x < T .counts .entities
+      → getD (forwardEntities T us t) x 0 ≡ 1 ↔ ((w : ℕ) × OfAny us (λ u. ForwardMarks T (startOf T u t)) w × (ownerOf T w ≡ x))
   unfolding forwardEntities
-  forward-marks u t x h =
-      entities-iff T (forwardWork T u t) (ForwardMarks T (startOf T u t)) (forwardWork-iff T f u t h)
-      (λ w d. forwardMarks-in T (startOf T u t) f (start-in T f u t h) d) x
+  forward-marks us t x h =
+      entities-iff T (forwardWork T us t) (OfAny us (λ u. ForwardMarks T (startOf T u t))) (forwardWork-iff T f us t h)
+      (λ w z. forwardMarks-in T (startOf T (z .0) t) f (start-in T f (z .0) t (h (z .0) (z .1))) (z .2)) x

@@ -1,5 +1,6 @@
 -- Document 01, "Traces": what a trace call returns and leaves, said by the documents' checks and relations alone (`traceChecks`,
--- `StartVersion`, `BackwardMarks`, `ForwardMarks`, `IsIntake`, `IsEarliest`), for every counts, tables, entities, time and buffers lent.
+-- `StartVersion`, `BackwardMarks`, `ForwardMarks`, `IsIntake`, `OfAny`, `IsEarliest`), for every counts, tables, entities, time and
+-- buffers lent.
 -- `backwardOf` and `forwardOf` compute this and nothing else, so how they compute it need not be read.
 use Prim.Native.Nat.{ℕ, _≤_, _<_}
 use mathlib.Core.Path.{_≡_}
@@ -61,7 +62,8 @@ pub record IsBackwardTrace (c : Counts) (t : Tables) (v time : ℕ) (work marks 
       × Marking (trailOf c t) (BackwardMarks (trailOf c t) s time) work marks (b .work) (b .marks) (b .answer .count)
 
 -- f is what a forward call on these returns and leaves. Document 02, 2.2: it marks "what any of them marks alone. .. an empty list marks
--- nothing. The count is of the union; the intake given is the earliest of the members'"; each member has a start version.
+-- nothing. The count is of the union; the intake given is the earliest of the members', 0 for an empty list." Each member has a start
+-- version.
 pub record IsForwardTrace (c : Counts) (t : Tables) (us : List ℕ) (time : ℕ) (work marks : List ℕ) (f : ForwardTrace) : Type 0 where
   pub refusal : f .answer .refusal ≡ numberOf (firstOf (traceChecks c t us work marks))
   pub refused : (f .answer .refusal ≡ 0 → ⊥) → f ≡ forwardTrace (record { refusal = f .answer .refusal; count = 0; intake = 0 }) work marks

@@ -9,7 +9,7 @@ use Rattle.rules.specs.Trail.{Tables, trailOf}
 use Rattle.rules.specs.Start.{StartVersion, IsIntake}
 use Rattle.rules.specs.Members.{OfAny, IsEarliest}
 use Rattle.rules.specs.Forward.{ForwardMarks, ForwardTrace, forwardOf}
-use Rattle.closure.specs.ByRelations.{Marking, IsForwardTrace}
+use Rattle.closure.specs.ByRelations.{CountOf, Marking, IsForwardTrace}
 
 -- the same members, in any order, each any number of times
 abbrev pub SameMembers : List ℕ → List ℕ → Type 0
@@ -17,17 +17,25 @@ SameMembers us us′ = (u : ℕ) → List·Memᴰ u us ↔ List·Memᴰ u us′
 
 -- f is the trace of the list; alone u is that of the list of u, lent the same
 module _ (c : Counts) (us : List ℕ) (f : ForwardTrace) (alone : ℕ → ForwardTrace) where
+  -- the byte of place k is 1 in what one of the members leaves alone
+  abbrev pub MarkedAlone : (ForwardTrace → List ℕ) → ℕ → Type 0
+  MarkedAlone buffer = OfAny us (λ u k. getD (buffer (alone u)) k 0 ≡ 1)
+
   -- "mark what any of them marks alone .. The count is of the union; the intake given is the earliest of the members', 0 for an empty list."
   pub record Union : Type 0 where
     pub member : (u : ℕ) → List·Memᴰ u us → alone u .answer .refusal ≡ 0
-    pub work : (w : ℕ) → w < c .versions → getD (f .work) w 0 ≡ 1 ↔ OfAny us (λ u k. getD (alone u .work) k 0 ≡ 1) w
-    pub marks : (x : ℕ) → x < c .entities → getD (f .marks) x 0 ≡ 1 ↔ OfAny us (λ u k. getD (alone u .marks) k 0 ≡ 1) x
+    pub work : (w : ℕ) → w < c .versions → (getD (f .work) w 0 ≡ 1) ↔ MarkedAlone (λ g. g .work) w
+    pub marks : (x : ℕ) → x < c .entities → (getD (f .marks) x 0 ≡ 1) ↔ MarkedAlone (λ g. g .marks) x
+    pub count : CountOf (λ x. (x < c .entities) × MarkedAlone (λ g. g .marks) x) (f .answer .count)
     pub intake : IsEarliest us (λ u i. i ≡ alone u .answer .intake) (f .answer .intake)
 
 pub record Members : Type 0 where
-  -- for every tables: those that are not sound are refused
+  -- for any tables: those that are not sound are refused
   pub union : (c : Counts) (t : Tables) (us : List ℕ) (time : ℕ) (work marks : List ℕ) → forwardOf c t us time work marks .answer .refusal ≡ 0
       → Union c us (forwardOf c t us time work marks) (λ u. forwardOf c t (u ∷ []) time work marks)
+  -- "One undeclared member gives 5", wherever it stands
+  pub undeclared : (c : Counts) (t : Tables) (us : List ℕ) (time : ℕ) (work marks : List ℕ) (u : ℕ) → List·Memᴰ u us
+      → forwardOf c t (u ∷ []) time work marks .answer .refusal ≡ 5 → forwardOf c t us time work marks .answer .refusal ≡ 5
   -- "Repeats change no mark": nor do they change anything else, refused calls too; and the order of the list does not matter
   pub same-members : (c : Counts) (t : Tables) (us us′ : List ℕ) → SameMembers us us′ → (time : ℕ) (work marks : List ℕ)
       → forwardOf c t us time work marks ≡ forwardOf c t us′ time work marks

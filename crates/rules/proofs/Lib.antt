@@ -12,3 +12,4 @@ pub mod ListingCases
 pub mod CallCases
 pub mod Start
 pub mod Intake
+pub mod Members

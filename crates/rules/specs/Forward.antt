@@ -57,7 +57,7 @@ forwardEntities T us t = marksBelow (T .version) (forwardWork T us t) (T .counts
 
 -- "It also gives the intake"; of a list "the intake given is the earliest of the members', 0 for an empty list"
 unfoldable pub forwardIntake : Trail → List ℕ → ℕ → ℕ
-forwardIntake T us t = earliest (map (λ s. intakeOf T s t) (startsOf T us t))
+forwardIntake T us t = earliest (map (λ u. intakeOf T (startOf T u t) t) us)
 
 -- The call
 

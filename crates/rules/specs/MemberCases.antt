@@ -3,13 +3,15 @@ use Prim.Native.Nat.{ℕ}
 use mathlib.Core.Path.{_≡_}
 use mathlib.Core.List.{List, [], _∷_, _++_, map}
 use lib.ListN.{replicate}
+use Rattle.rules.specs.Trail.{freshCounts}
 use Rattle.rules.specs.Batch.{Batched}
 use Rattle.rules.specs.Members.{earliest}
 use Rattle.rules.specs.Forward.{ForwardTrace, forwardOf}
 use Rattle.rules.specs.Worked.{forward, ForwardIs}
-use Rattle.rules.specs.Order.{declare, event, used, unsound}
+use Rattle.rules.specs.Order.{declare, event, used, unsound, noRows}
+use Rattle.rules.specs.SoundCases.{versionsUsed}
 use Rattle.rules.specs.FileCases.{takenIn}
-use Rattle.rules.specs.TraceCases.{forwardIn, forwardTo, forwardRefused}
+use Rattle.rules.specs.TraceCases.{notEntered, forwardIn, forwardTo, forwardRefused}
 
 -- 1 reads 0 at 1 and writes 0 at 2, which makes the second version of 0; 2 is in no event
 abbrev pub writtenBack : Batched
@@ -18,7 +20,11 @@ writtenBack = takenIn (declare 0 0 ++ (declare 1 1 ++ (declare 2 0 ++ (event 1 0
 abbrev pub writtenForward : List ℕ → ForwardTrace
 writtenForward us = forwardOf (writtenBack .counts) (writtenBack .tables) us 2 (replicate 4 9) (replicate 3 9)
 
--- the traces of the lists, of buffers with a byte more than the trail of RecordCases has versions and entities
+-- 1 writes 2 at 1 and reads 0 at 2, which makes its second version
+abbrev pub readAfter : Batched
+readAfter = takenIn (declare 0 0 ++ (declare 1 1 ++ (declare 2 0 ++ (event 2 1 2 1 ++ event 1 0 1 2))))
+
+-- the traces of the lists, with buffers a byte longer than the trail of RecordCases has versions and entities
 abbrev pub refusedIn : List (List ℕ) → List ForwardTrace
 refusedIn = map (λ us. forwardIn 8 5 us 5)
 
@@ -33,16 +39,24 @@ pub record MemberCases : Type 0 where
   -- every member counts, wherever it stands: the montage's own marks and intake
   pub first-counts : ForwardIs (forward (3 ∷ 2 ∷ 2 ∷ []) 6) 3 0 (0 ∷ 1 ∷ 1 ∷ 1 ∷ [])
   pub last-counts : ForwardIs (forward (2 ∷ 2 ∷ 3 ∷ []) 6) 3 0 (0 ∷ 1 ∷ 1 ∷ 1 ∷ [])
-  -- "the earliest of the members'", of one that has no intake too
+  -- of a version or an entity that another member marks, too: the stager and the report at 1, the montage and the stager at 4
+  pub marked-already : ForwardIs (forward (1 ∷ 2 ∷ []) 1) 2 0 (0 ∷ 1 ∷ 1 ∷ 0 ∷ [])
+  pub older-version : forward (3 ∷ 1 ∷ []) 4 ≡ forwardTo 3 0 (0 ∷ 1 ∷ 1 ∷ 1 ∷ 1 ∷ 9 ∷ []) (0 ∷ 1 ∷ 1 ∷ 1 ∷ 9 ∷ [])
+  pub older-version-gave : forwardOf (readAfter .counts) (readAfter .tables) (0 ∷ 1 ∷ []) 1 (replicate 4 9) (replicate 3 9) ≡ forwardTo 3 0 (1 ∷ 1 ∷ 1 ∷ 1 ∷ []) (1 ∷ 1 ∷ 1 ∷ [])
+  -- "the earliest of the members'", of one without a kept intake too; else the start of its start version, here of versions that start at 6
+  -- and at 8
   pub intake-and-none : ForwardIs (forward (1 ∷ 3 ∷ []) 5) 3 0 (0 ∷ 1 ∷ 1 ∷ 1 ∷ [])
+  pub starts-of-both : forwardOf (versionsUsed 6) notEntered (1 ∷ 2 ∷ []) 9 (replicate 6 9) (replicate 4 9) .answer ≡ record { refusal = 0; count = 2; intake = 6 }
   pub earliest-of : map earliest ([] ∷ (7 ∷ []) ∷ (3 ∷ 5 ∷ 4 ∷ []) ∷ (5 ∷ 3 ∷ 4 ∷ []) ∷ (5 ∷ 4 ∷ 3 ∷ []) ∷ []) ≡ 0 ∷ 7 ∷ 3 ∷ 3 ∷ 3 ∷ []
-  -- each from its own intake, and not all from the earliest, 0, from which 0 reaches 1
+  -- each from its own intake, and not all from the earliest, at time 0, from which object 0 reaches subject 1
   pub own-intakes : writtenForward (0 ∷ 2 ∷ []) ≡ forwardTo 2 0 (0 ∷ 0 ∷ 1 ∷ 1 ∷ []) (1 ∷ 0 ∷ 1 ∷ [])
   -- "an empty list marks nothing": 0 below the counts, and past them as it was; "0 for an empty list"
   pub empty : forwardIn 9 6 [] 5 ≡ forwardTo 0 0 (0 ∷ 0 ∷ 0 ∷ 0 ∷ 0 ∷ 0 ∷ 0 ∷ 9 ∷ 9 ∷ []) (0 ∷ 0 ∷ 0 ∷ 0 ∷ 9 ∷ 9 ∷ [])
   pub empty-exact : forwardIn 7 4 [] 5 ≡ forwardTo 0 0 (replicate 7 0) (replicate 4 0)
-  -- it is refused for unsound tables and for short buffers as any list is
+  pub empty-fresh : forwardOf freshCounts noRows [] 0 (9 ∷ []) (9 ∷ []) ≡ forwardTo 0 0 (9 ∷ []) (9 ∷ [])
+  -- it is refused for unsound tables, first, and for short buffers as any list is
   pub empty-unsound : forwardOf (used 1) unsound [] 5 (9 ∷ 9 ∷ []) (9 ∷ 9 ∷ []) ≡ forwardRefused 16 2 2
+  pub empty-16-14 : forwardOf (used 1) unsound [] 5 [] [] .answer ≡ record { refusal = 16; count = 0; intake = 0 }
   pub empty-work-short : forwardIn 6 4 [] 5 ≡ forwardRefused 14 6 4
   pub empty-marks-short : forwardIn 7 3 [] 5 ≡ forwardRefused 14 7 3
   -- "One undeclared member gives 5", at the beginning, in the middle and at the end; nothing is written
