@@ -25,47 +25,47 @@ use Rattle.closure.specs.Arcs.{AllBelow}
 
 -- The checks of the members
 
-module _ (c : Counts) where
+module _ (n : ℕ) where
   -- each is declared, or one is not
-  pub declared-or-not : (xs : List ℕ) → AllBelow (c .entities) xs ⊎ ((x : ℕ) × List·Memᴰ x xs × (c .entities ≤ x))
+  pub declared-or-not : (xs : List ℕ) → AllBelow n xs ⊎ ((x : ℕ) × List·Memᴰ x xs × (n ≤ x))
   declared-or-not [] = inl (λ x m. absurd (List·Memᴰ·not-nil m))
-  declared-or-not (x ∷ xs) = go (decLe (c .entities) x) (declared-or-not xs)
+  declared-or-not (x ∷ xs) = go (decLe n x) (declared-or-not xs)
     where
-      go : Dec (c .entities ≤ x) → AllBelow (c .entities) xs ⊎ ((y : ℕ) × List·Memᴰ y xs × (c .entities ≤ y))
-          → AllBelow (c .entities) (x ∷ xs) ⊎ ((y : ℕ) × List·Memᴰ y (x ∷ xs) × (c .entities ≤ y))
+      go : Dec (n ≤ x) → AllBelow n xs ⊎ ((y : ℕ) × List·Memᴰ y xs × (n ≤ y))
+          → AllBelow n (x ∷ xs) ⊎ ((y : ℕ) × List·Memᴰ y (x ∷ xs) × (n ≤ y))
       go (yes l) z = inr (x, List·Memᴰ·head refl, l)
       go (no l) (inr (y, m, k)) = inr (y, List·Memᴰ·tail m, k)
       go (no l) (inl h) = inl (λ y m. at y (List·Memᴰ·cases-cons m))
         where
-          at : (y : ℕ) → (y ≡ x) ⊎ List·Memᴰ y xs → y < c .entities
+          at : (y : ℕ) → (y ≡ x) ⊎ List·Memᴰ y xs → y < n
           at y (inl q) = omega arith
           at y (inr m) = h y m
 
-module _ (c : Counts) (cs : List Check) where
+module _ (n : ℕ) (cs : List Check) where
   -- where each is, the checks after them decide
-  pub declared-next : (xs : List ℕ) → AllBelow (c .entities) xs → firstOf (undeclaredChecks c xs ++ cs) ≡ firstOf cs
+  pub declared-next : (xs : List ℕ) → AllBelow n xs → firstOf (undeclaredChecks n xs ++ cs) ≡ firstOf cs
   unfolding firstOf
   declared-next [] h = refl
-  declared-next (x ∷ xs) h = rw (lt-leb (c .entities) x (h x (List·Memᴰ·head refl))) (declared-next xs (λ y m. h y (List·Memᴰ·tail m)))
+  declared-next (x ∷ xs) h = rw (lt-leb n x (h x (List·Memᴰ·head refl))) (declared-next xs (λ y m. h y (List·Memᴰ·tail m)))
 
   -- "One undeclared member gives 5"
-  pub undeclared-refused : (xs : List ℕ) (x : ℕ) → List·Memᴰ x xs → c .entities ≤ x → firstOf (undeclaredChecks c xs ++ cs) ≡ Refused Undeclared
+  pub undeclared-refused : (xs : List ℕ) (x : ℕ) → List·Memᴰ x xs → n ≤ x → firstOf (undeclaredChecks n xs ++ cs) ≡ Refused Undeclared
   unfolding firstOf
   undeclared-refused [] x m l = absurd (List·Memᴰ·not-nil m)
-  undeclared-refused (y ∷ ys) x m l = go (List·Memᴰ·cases-cons m) (leb (c .entities) y) refl (λ k. undeclared-refused ys x k l)
+  undeclared-refused (y ∷ ys) x m l = go (List·Memᴰ·cases-cons m) (leb n y) refl (λ k. undeclared-refused ys x k l)
     where
-      go : (x ≡ y) ⊎ List·Memᴰ x ys → (b : Bool) → leb (c .entities) y ≡ b → (List·Memᴰ x ys → firstOf (undeclaredChecks c ys ++ cs) ≡ Refused Undeclared)
-          → cond b (Refused Undeclared) (firstOf (undeclaredChecks c ys ++ cs)) ≡ Refused Undeclared
+      go : (x ≡ y) ⊎ List·Memᴰ x ys → (b : Bool) → leb n y ≡ b → (List·Memᴰ x ys → firstOf (undeclaredChecks n ys ++ cs) ≡ Refused Undeclared)
+          → cond b (Refused Undeclared) (firstOf (undeclaredChecks n ys ++ cs)) ≡ Refused Undeclared
       go z true q ih = refl
-      go (inl e) false q ih = absurd (omega (arith, leb-false (c .entities) y q))
+      go (inl e) false q ih = absurd (omega (arith, leb-false n y q))
       go (inr k) false q ih = ih k
 
-  all-declared : (xs : List ℕ) → AllFalse (undeclaredChecks c xs ++ cs) → AllBelow (c .entities) xs × AllFalse cs
+  all-declared : (xs : List ℕ) → AllFalse (undeclaredChecks n xs ++ cs) → AllBelow n xs × AllFalse cs
   all-declared [] h = (λ x m. absurd (List·Memᴰ·not-nil m), h)
   all-declared (x ∷ xs) h = let r = all-declared xs (h .1) in (λ y m. at y (List·Memᴰ·cases-cons m) (r .0), r .1)
     where
-      at : (y : ℕ) → (y ≡ x) ⊎ List·Memᴰ y xs → AllBelow (c .entities) xs → y < c .entities
-      at y (inl q) z = omega (arith, leb-false (c .entities) x (h .0))
+      at : (y : ℕ) → (y ≡ x) ⊎ List·Memᴰ y xs → AllBelow n xs → y < n
+      at y (inl q) z = omega (arith, leb-false n x (h .0))
       at y (inr m) z = z y m
 
 -- All checks
@@ -124,7 +124,7 @@ module _ (c : Counts) (t : Tables) (xs work marks : List ℕ) (p : firstOf (trac
 
   checked : AllBelow (c .entities) xs × AllFalse (bufferChecks c work marks)
   unfolding traceChecks
-  checked = all-declared c (bufferChecks c work marks) xs (all-false .1)
+  checked = all-declared (c .entities) (bufferChecks c work marks) xs (all-false .1)
 
   -- a trace whose checks pass is of entities that are declared
   pub passed-entities : AllBelow (c .entities) xs

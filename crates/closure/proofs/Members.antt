@@ -34,14 +34,14 @@ module _ (c : Counts) (t : Tables) (work marks : List ℕ) where
   -- Lists with the same members
 
   refusals-same : (us us′ : List ℕ) → SameMembers us us′ → firstOf (traceRefusals c us work marks) ≡ firstOf (traceRefusals c us′ work marks)
-  refusals-same us us′ h = go (declared-or-not c us)
+  refusals-same us us′ h = go (declared-or-not (c .entities) us)
     where
       cs : List Check
       cs = bufferChecks c work marks
 
       go : AllBelow (c .entities) us ⊎ ((x : ℕ) × List·Memᴰ x us × (c .entities ≤ x)) → firstOf (traceRefusals c us work marks) ≡ firstOf (traceRefusals c us′ work marks)
-      go (inl a) = declared-next c cs us a ∙ sym (declared-next c cs us′ (λ x m. a x (h x .1 m)))
-      go (inr (x, m, l)) = undeclared-refused c cs us x m l ∙ sym (undeclared-refused c cs us′ x (h x .0 m) l)
+      go (inl a) = declared-next (c .entities) cs us a ∙ sym (declared-next (c .entities) cs us′ (λ x m. a x (h x .1 m)))
+      go (inr (x, m, l)) = undeclared-refused (c .entities) cs us x m l ∙ sym (undeclared-refused (c .entities) cs us′ x (h x .0 m) l)
 
   checked-same : (us us′ : List ℕ) → SameMembers us us′ → traceChecked c t us work marks ≡ traceChecked c t us′ work marks
   unfolding traceChecks firstOf
@@ -88,7 +88,7 @@ module _ (c : Counts) (t : Tables) (work marks : List ℕ) where
   unfolding traceChecks firstOf
   list-refused-5 us u m z =
       let r = refused-5 u z in
-      rw (r .0) (ap numberOf (undeclared-refused c (bufferChecks c work marks) us u m (r .1)))
+      rw (r .0) (ap numberOf (undeclared-refused (c .entities) (bufferChecks c work marks) us u m (r .1)))
 
   undeclared : (us : List ℕ) (time u : ℕ) → List·Memᴰ u us → forwardOf c t (u ∷ []) time work marks .answer .refusal ≡ 5 → forwardOf c t us time work marks .answer .refusal ≡ 5
   undeclared us time u m z =

@@ -41,7 +41,7 @@ checked-alike : (c : Counts) (t : Tables) (us us′ work marks : List ℕ) → A
 unfolding traceChecks firstOf
 checked-alike c t us us′ work marks h h′ =
     let cs = bufferChecks c work marks in
-    ap (cond (not (isSound (capacityOf t) (trailOf c t))) (Refused Unsound)) (declared-next c cs us h ∙ sym (declared-next c cs us′ h′))
+    ap (cond (not (isSound (capacityOf t) (trailOf c t))) (Refused Unsound)) (declared-next (c .entities) cs us h ∙ sym (declared-next (c .entities) cs us′ h′))
 
 module _ (c : Counts) (t : Tables) (us : List ℕ) (time : ℕ) (work marks : List ℕ) (z : forwardOf c t us time work marks .answer .refusal ≡ 0) where
   abbrev T : Trail

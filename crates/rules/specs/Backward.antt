@@ -52,10 +52,10 @@ backwardWork T v t = closed (T .counts .versions) (backwardArcs T (startOf T v t
 unfoldable pub backwardEntities : Trail → ℕ → ℕ → List ℕ
 backwardEntities T v t = marksBelow (T .version) (backwardWork T v t) (T .counts .versions) (T .counts .entities)
 
--- 5: "Entity not declared." Of a list, "One undeclared member gives 5" (document 02, 2.2)
-abbrev pub undeclaredChecks : Counts → List ℕ → List Check
-undeclaredChecks c [] = []
-undeclaredChecks c (x ∷ xs) = check (leb (c .entities) x) Undeclared ∷ undeclaredChecks c xs
+-- 5: "Entity not declared", where n are. Of a list, "One undeclared member gives 5" (document 02, 2.2)
+abbrev pub undeclaredChecks : ℕ → List ℕ → List Check
+undeclaredChecks n [] = []
+undeclaredChecks n (x ∷ xs) = check (leb n x) Undeclared ∷ undeclaredChecks n xs
 
 -- 14: "Mark or work buffer shorter than its count."
 abbrev pub bufferChecks : Counts → List ℕ → List ℕ → List Check
@@ -63,7 +63,7 @@ bufferChecks c work marks = check (ltb (length work) (c .versions)) BufferShort 
 
 -- a trace of the entities of the list: 5, 14
 abbrev pub traceRefusals : Counts → List ℕ → List ℕ → List ℕ → List Check
-traceRefusals c xs work marks = undeclaredChecks c xs ++ bufferChecks c work marks
+traceRefusals c xs work marks = undeclaredChecks (c .entities) xs ++ bufferChecks c work marks
 
 -- "A trace checks 16, 5, 14."
 unfoldable pub traceChecks : Counts → Tables → List ℕ → List ℕ → List ℕ → List Check
