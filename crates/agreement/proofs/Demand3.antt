@@ -5,7 +5,7 @@ use native.Mathlib.Omega.{arith}
 use mathlib.Core.Path.{_≡_, refl, sym, _∙_}
 use mathlib.Core.Logic.{_↔_, Iff·trans}
 use mathlib.Core.Bool.{true}
-use mathlib.Core.List.{List, [], _∷_}
+use mathlib.Core.List.{List, [], _∷_, List·Memᴰ, List·Memᴰ·head}
 use lib.ListN.{getD}
 use Rattle.refusals.specs.Refusals.{firstOf, numberOf}
 use Rattle.rows.specs.declared.Counts.{Counts}
@@ -16,14 +16,21 @@ use Rattle.rules.specs.Paths.{PathBy, PathFrom}
 use Rattle.rules.specs.History.{accepted, intakeTime, Reached}
 use Rattle.rules.specs.PlainList.{worked, itemsOf}
 use Rattle.rules.specs.Backward.{traceRefusals, traceChecks, BackwardTrace, backwardOf}
-use Rattle.rules.specs.Forward.{ForwardTrace, forwardOf}
+use Rattle.rules.specs.Start.{StartVersion, startOf}
+use Rattle.rules.specs.Members.{OfAny, IsEarliest}
+use Rattle.rules.specs.Forward.{ForwardMarks, MarkedFrom, IntakeFrom, ForwardTrace, forwardOf}
 use Rattle.rules.specs.Calls.{Call, batch, backward, forward, heldAfter, Lent, AllLent, plainAfter}
-use Rattle.rules.proofs.Intake.{intakeOf-is, intake-one}
-use Rattle.closure.specs.ByRelations.{CountOf, HasMarkedVersion, Marking, IsBackwardTrace, IsForwardTrace}
-use Rattle.closure.proofs.Traces.{passed-entity}
-use Rattle.closure.proofs.Checked.{number-passed}
+use Rattle.rules.proofs.Members.{ofAny-iff, earliest-same}
+use Rattle.closure.specs.Arcs.{AllBelow}
+use Rattle.closure.specs.ByRelations.{HasMarkedVersion, Marking, IsBackwardTrace, IsForwardTrace}
+use Rattle.closure.proofs.StartVersion.{startOf-is}
+use Rattle.closure.proofs.Checked.{number-passed, passed-entities}
+use Rattle.closure.proofs.Marking.{countOf-iff}
+use Rattle.closure.proofs.FromStart.{marked-from, intake-from}
 use Rattle.closure.proofs.Traced.{BackwardTraced, ForwardTraced}
 use Rattle.closure.proofs.ByRelations.{traces-by-relations}
+use Rattle.closure.proofs.Union.{owner-any}
+use Rattle.causality.specs.Working.{EntityMarked}
 use Rattle.causality.proofs.Theorem.{claims}
 use Rattle.agreement.specs.Left.{LeftBy}
 use Rattle.agreement.specs.Demand3.{MarksAre, BackwardAgrees, ForwardAgrees, TracesAgree, GainsAreKept, Demand3}
@@ -31,10 +38,6 @@ use Rattle.agreement.proofs.Plain.{taken-fine}
 use Rattle.agreement.proofs.Matching.{Matches, matches, lent-sound}
 use Rattle.agreement.proofs.Held.{marked-some, Known, known}
 use Rattle.agreement.proofs.Left.{left-by}
-
--- of the same numbers there are as many
-countOf-iff : {M N : ℕ → Type 0} {n : ℕ} → ((x : ℕ) → M x ↔ N x) → CountOf M n → CountOf N n
-countOf-iff h r = record { list = r .list; once = r .once; has = λ x. Iff·trans (r .has x) (h x); count-is = r .count-is }
 
 module _ (c : Counts) (t : Tables) (rs : List Record) (k : Known (trailOf c t) (worked rs .counts .entities) (itemsOf rs)) where
   abbrev T : Trail
@@ -51,53 +54,70 @@ module _ (c : Counts) (t : Tables) (rs : List Record) (k : Known (trailOf c t) (
       counted = countOf-iff (λ x. (λ z. (in-plain (g .entities .marked x .1 z .0), h x .0 z), λ z. h x .1 (z .1))) (g .counted);
     }
 
-  module _ (x time : ℕ) (work marks : List ℕ) (i : x < c .entities) where
-    backward-marks : (b : BackwardTrace) → BackwardTraced T x time work marks b
-        → MarksAre (worked rs .counts .entities) (λ y. PathBy (accepted (itemsOf rs)) time y x) (b .marks) (b .answer .count)
-    backward-marks b z = marks-are (z .2) (λ y. Iff·trans marked-some (k .document01 .backward x time (z .0) y i (z .1)))
+  backward-marks : (x time : ℕ) (work marks : List ℕ) → x < c .entities → (b : BackwardTrace) → BackwardTraced T x time work marks b
+      → MarksAre (worked rs .counts .entities) (λ y. PathBy (accepted (itemsOf rs)) time y x) (b .marks) (b .answer .count)
+  backward-marks x time work marks i b z = marks-are (z .2) (λ y. Iff·trans marked-some (k .document01 .backward x time (z .0) y i (z .1)))
 
-    module _ (f : ForwardTrace) (z : ForwardTraced T x time work marks f) where
-      forward-marks : MarksAre (worked rs .counts .entities) (Reached x time (itemsOf rs)) (f .marks) (f .answer .count)
-      forward-marks = marks-are (z .3) (λ y. Iff·trans marked-some (k .document01 .forward x time (z .0) y i (z .1)))
+  module _ (us : List ℕ) (time : ℕ) (work marks : List ℕ) (h : AllBelow (c .entities) us) where
+    -- the start version of a member, and what is marked from it
+    start-of : (u : ℕ) → List·Memᴰ u us → StartVersion T u time (startOf T u time)
+    start-of u m = startOf-is T (k .rows) (k .few) u time (h u m)
 
-      forward-intake : f .answer .intake ≡ intakeTime x time (itemsOf rs)
-      forward-intake = intake-one T (z .0) time (z .2) (intakeOf-is T (z .0) time) ∙ k .document01 .intake x time (z .0) i (z .1)
+    from-one : (u : ℕ) → List·Memᴰ u us → (y : ℕ) → HasMarkedVersion T (MarkedFrom T time u) y ↔ EntityMarked T (ForwardMarks T (startOf T u time)) y
+    from-one u m y =
+        let d = marked-from T (k .rows) (k .few) time u (h u m) in
+        Iff·trans (λ z. (z .0, d (z .0) .0 (z .1), z .2), λ z. (z .0, d (z .0) .1 (z .1), z .2)) marked-some
 
-      forward-never-less : (y : ℕ) → PathFrom (accepted (itemsOf rs)) time x y → (y < worked rs .counts .entities) × (getD (f .marks) y 0 ≡ 1)
-      forward-never-less y p =
-          let e = z .3 .entities .marked y .1 (marked-some .1 (k .document01 .never-less x time (z .0) y i (z .1) p)) in
+    reached-from : (u : ℕ) → List·Memᴰ u us → (y : ℕ) → HasMarkedVersion T (MarkedFrom T time u) y ↔ Reached u time (itemsOf rs) y
+    reached-from u m y = Iff·trans (from-one u m y) (k .document01 .forward u time (startOf T u time) y (h u m) (start-of u m))
+
+    intake-of : (u : ℕ) → List·Memᴰ u us → (i : ℕ) → IntakeFrom T time u i ↔ (i ≡ intakeTime u time (itemsOf rs))
+    intake-of u m i =
+        let q = k .document01 .intake u time (startOf T u time) (h u m) (start-of u m) in
+        let g = intake-from T (k .rows) (k .few) time u (h u m) i in
+        (λ d. g .1 d ∙ q, λ e. g .0 (e ∙ sym q))
+
+    module _ (f : ForwardTrace) (z : ForwardTraced T us time work marks f) where
+      forward-marks : MarksAre (worked rs .counts .entities) (OfAny us (λ u. Reached u time (itemsOf rs))) (f .marks) (f .answer .count)
+      forward-marks =
+          marks-are (z .1)
+          (λ y. Iff·trans (owner-any T us (MarkedFrom T time) y)
+          (ofAny-iff us (λ u. HasMarkedVersion T (MarkedFrom T time u)) (λ u. Reached u time (itemsOf rs)) y (λ u m. reached-from u m y)))
+
+      forward-intake : IsEarliest us (λ u i. i ≡ intakeTime u time (itemsOf rs)) (f .answer .intake)
+      forward-intake = earliest-same (λ i. ofAny-iff us (IntakeFrom T time) (λ u j. j ≡ intakeTime u time (itemsOf rs)) i (λ u m. intake-of u m i)) (λ q. q) (z .0)
+
+      forward-never-less : (y : ℕ) → OfAny us (PathFrom (accepted (itemsOf rs)) time) y → (y < worked rs .counts .entities) × (getD (f .marks) y 0 ≡ 1)
+      forward-never-less y (u, m, p) =
+          let d = from-one u m y .1 (k .document01 .never-less u time (startOf T u time) y (h u m) (start-of u m) p) in
+          let e = z .1 .entities .marked y .1 (owner-any T us (MarkedFrom T time) y .1 (u, m, d)) in
           (omega (arith, k .entities, e .0), e .1)
 
   -- over sound tables with the counts of the plain list, a trace is refused for what the plain list says
-  module _ (s : isSound (capacityOf t) T ≡ true) (same : c ≡ worked rs .counts) (x time : ℕ) (work marks : List ℕ) where
-    checks-same : numberOf (firstOf (traceChecks c t x work marks)) ≡ numberOf (firstOf (traceRefusals (worked rs .counts) x work marks))
-    unfolding traceChecks firstOf
-    checks-same = rw s (λ j. numberOf (firstOf (traceRefusals (same j) x work marks)))
+  module _ (s : isSound (capacityOf t) T ≡ true) (same : c ≡ worked rs .counts) where
+    module _ (xs work marks : List ℕ) {n : ℕ} (p : n ≡ numberOf (firstOf (traceChecks c t xs work marks))) where
+      rightly : n ≡ numberOf (firstOf (traceRefusals (worked rs .counts) xs work marks))
+      unfolding traceChecks firstOf
+      rightly = p ∙ rw s (λ j. numberOf (firstOf (traceRefusals (same j) xs work marks)))
 
-    abbrev Rightly : ℕ → Type 0
-    Rightly n = n ≡ numberOf (firstOf (traceRefusals (worked rs .counts) x work marks))
+      passed : n ≡ 0 → AllBelow (c .entities) xs
+      passed q = passed-entities c t xs work marks (number-passed c t xs work marks (sym p ∙ q))
 
-    rightly : {n : ℕ} → n ≡ numberOf (firstOf (traceChecks c t x work marks)) → Rightly n
-    rightly p = p ∙ checks-same
-
-    passed : {n : ℕ} → n ≡ numberOf (firstOf (traceChecks c t x work marks)) → n ≡ 0 → x < c .entities
-    passed p q = passed-entity c t x work marks (number-passed c t x work marks (sym p ∙ q))
-
-    backward-answer : (b : BackwardTrace) → IsBackwardTrace c t x time work marks b → BackwardAgrees rs x time work marks b
-    backward-answer b r = record {
-      refusal = rightly (r .refusal);
-      marks-are = λ q. backward-marks x time work marks (passed (r .refusal) q) b (r .traced q);
+    backward-answer : (x time : ℕ) (work marks : List ℕ) (b : BackwardTrace) → IsBackwardTrace c t x time work marks b → BackwardAgrees rs x time work marks b
+    backward-answer x time work marks b r = record {
+      refusal = rightly (x ∷ []) work marks (r .refusal);
+      marks-are = λ q. backward-marks x time work marks (passed (x ∷ []) work marks (r .refusal) q x (List·Memᴰ·head refl)) b (r .traced q);
     }
 
-    forward-answer : (f : ForwardTrace) → IsForwardTrace c t x time work marks f → ForwardAgrees rs x time work marks f
-    forward-answer f r = record {
-      refusal = rightly (r .refusal);
-      marks-are = λ q. forward-marks x time work marks (passed (r .refusal) q) f (r .traced q);
-      intake-is = λ q. forward-intake x time work marks (passed (r .refusal) q) f (r .traced q);
-      never-less = λ q. forward-never-less x time work marks (passed (r .refusal) q) f (r .traced q);
+    forward-answer : (us : List ℕ) (time : ℕ) (work marks : List ℕ) (f : ForwardTrace) → IsForwardTrace c t us time work marks f → ForwardAgrees rs us time work marks f
+    forward-answer us time work marks f r = record {
+      refusal = rightly us work marks (r .refusal);
+      marks-are = λ q. forward-marks us time work marks (passed us work marks (r .refusal) q) f (r .traced q);
+      intake-is = λ q. forward-intake us time work marks (passed us work marks (r .refusal) q) f (r .traced q);
+      never-less = λ q. forward-never-less us time work marks (passed us work marks (r .refusal) q) f (r .traced q);
     }
 
-module _ (cs : List Call) (a : AllLent cs) (t : Tables) (l : Lent (heldAfter cs) t) (x time : ℕ) (work marks : List ℕ) where
+module _ (cs : List Call) (a : AllLent cs) (t : Tables) (l : Lent (heldAfter cs) t) where
   m : Matches (heldAfter cs) (plainAfter cs)
   m = matches cs a
 
@@ -107,19 +127,19 @@ module _ (cs : List Call) (a : AllLent cs) (t : Tables) (l : Lent (heldAfter cs)
   s : isSound (capacityOf t) (trailOf c t) ≡ true
   s = lent-sound _ _ m t l
 
-  backward-held : BackwardAgrees (plainAfter cs) x time work marks (backwardOf c t x time work marks)
-  backward-held =
+  backward-held : (x time : ℕ) (work marks : List ℕ) → BackwardAgrees (plainAfter cs) x time work marks (backwardOf c t x time work marks)
+  backward-held x time work marks =
       backward-answer c t (plainAfter cs) (known _ _ m t l) s (sym (m .alike .counts)) x time work marks _ (traces-by-relations .backward c t x time work marks _ .0 refl)
 
-  forward-held : ForwardAgrees (plainAfter cs) x time work marks (forwardOf c t x time work marks)
-  forward-held =
-      forward-answer c t (plainAfter cs) (known _ _ m t l) s (sym (m .alike .counts)) x time work marks _ (traces-by-relations .forward c t x time work marks _ .0 refl)
+  forward-held : (us : List ℕ) (time : ℕ) (work marks : List ℕ) → ForwardAgrees (plainAfter cs) us time work marks (forwardOf c t us time work marks)
+  forward-held us time work marks =
+      forward-answer c t (plainAfter cs) (known _ _ m t l) s (sym (m .alike .counts)) us time work marks _ (traces-by-relations .forward c t us time work marks _ .0 refl)
 
 traces-agree : (cs : List Call) → AllLent cs → TracesAgree cs
 traces-agree [] a = tt
 traces-agree (batch t file ∷ cs) a = traces-agree cs (a .1)
 traces-agree (backward t v time work marks ∷ cs) a = (backward-held cs (a .1) t (a .0) v time work marks, traces-agree cs (a .1))
-traces-agree (forward t u time work marks ∷ cs) a = (forward-held cs (a .1) t (a .0) u time work marks, traces-agree cs (a .1))
+traces-agree (forward t us time work marks ∷ cs) a = (forward-held cs (a .1) t (a .0) us time work marks, traces-agree cs (a .1))
 
 gains-kept : (cs : List Call) → AllLent cs → GainsAreKept (itemsOf (plainAfter cs))
 gains-kept cs a = let f = taken-fine (matches cs a .taken) in claims .document01 (f .grown) (f .falling) .gain
@@ -128,13 +148,13 @@ pub demand3 : Demand3
 demand3 cs a = (traces-agree cs a, gains-kept cs a)
 
 -- of a trace lent what a list of calls leaves: it goes on the list
-module _ {cs : List Call} {c : Counts} {t : Tables} (l : LeftBy cs c t) (x time : ℕ) (work marks : List ℕ) where
-  pub next-backward : BackwardAgrees (plainAfter cs) x time work marks (backwardOf c t x time work marks)
-  next-backward =
+module _ {cs : List Call} {c : Counts} {t : Tables} (l : LeftBy cs c t) where
+  pub next-backward : (x time : ℕ) (work marks : List ℕ) → BackwardAgrees (plainAfter cs) x time work marks (backwardOf c t x time work marks)
+  next-backward x time work marks =
       left-by (λ k. BackwardAgrees (plainAfter cs) x time work marks (backwardOf k t x time work marks)) l
       (demand3 (backward t x time work marks ∷ cs) (l .rows, l .lent) .0 .0)
 
-  pub next-forward : ForwardAgrees (plainAfter cs) x time work marks (forwardOf c t x time work marks)
-  next-forward =
-      left-by (λ k. ForwardAgrees (plainAfter cs) x time work marks (forwardOf k t x time work marks)) l
-      (demand3 (forward t x time work marks ∷ cs) (l .rows, l .lent) .0 .0)
+  pub next-forward : (us : List ℕ) (time : ℕ) (work marks : List ℕ) → ForwardAgrees (plainAfter cs) us time work marks (forwardOf c t us time work marks)
+  next-forward us time work marks =
+      left-by (λ k. ForwardAgrees (plainAfter cs) us time work marks (forwardOf k t us time work marks)) l
+      (demand3 (forward t us time work marks ∷ cs) (l .rows, l .lent) .0 .0)

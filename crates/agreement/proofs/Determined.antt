@@ -1,5 +1,5 @@
 -- The claims determine the answers: a byte is 0 or 1 and says whether the claim's relation holds; a relation has one count;
--- the intake, rows and counts are given by equations; a plain list grew by as many records as it is longer.
+-- there is one earliest intake; rows and counts are given by equations; a plain list grew by as many records as it is longer.
 use Prim.Native.Nat.{ℕ, _+_}
 use native.Mathlib.Omega.{arith}
 use mathlib.Core.Path.{_≡_, sym, _∙_, ap}
@@ -12,6 +12,7 @@ use Rattle.record.specs.declared.Record.{Record}
 use Rattle.rules.specs.declared.BatchAnswer.{BatchAnswer}
 use Rattle.rules.specs.Trail.{Tables, trailOf}
 use Rattle.rules.specs.Batch.{contentsOf}
+use Rattle.rules.proofs.Members.{earliest-one}
 use Rattle.closure.specs.Same.{SameRows}
 use Rattle.closure.proofs.Descending.{count-one}
 use Rattle.agreement.specs.Demand2.{Holds, Answered}
@@ -63,10 +64,10 @@ taken-length rs t file rs′ a g =
 pub determined : Determined
 determined = record {
   backward = λ rs v time work marks work′ marks′ b b′ a a′ z z′. (marks-one (a .marks-are z) (a′ .marks-are z′), count-same (a .marks-are z) (a′ .marks-are z′));
-  forward = λ rs u time work marks work′ marks′ f f′ a a′ z z′. (
+  forward = λ rs us time work marks work′ marks′ f f′ a a′ z z′. (
     marks-one (a .marks-are z) (a′ .marks-are z′),
     count-same (a .marks-are z) (a′ .marks-are z′),
-    a .intake-is z ∙ sym (a′ .intake-is z′),
+    earliest-one (a .intake-is z) (a′ .intake-is z′),
   );
   holds = λ rs c c′ t t′ h h′. (counts-one rs c c′ t t′ h h′, rows-one rs c c′ t t′ h h′);
   answer = λ rs t file rs′ a a′ g g′.

@@ -41,8 +41,8 @@ module _ (cs : List Call) (t : Tables) (a : AllLent cs) (l : Lent (heldAfter cs)
   backward-left : (v time : ℕ) (work marks : List ℕ) → LeftBy (backward t v time work marks ∷ cs) (heldAfter cs .counts) t
   backward-left v time work marks = record { lent = (l, a); counts = refl; rows = own-sound _ _ left-sound }
 
-  forward-left : (u time : ℕ) (work marks : List ℕ) → LeftBy (forward t u time work marks ∷ cs) (heldAfter cs .counts) t
-  forward-left u time work marks = record { lent = (l, a); counts = refl; rows = own-sound _ _ left-sound }
+  forward-left : (us : List ℕ) (time : ℕ) (work marks : List ℕ) → LeftBy (forward t us time work marks ∷ cs) (heldAfter cs .counts) t
+  forward-left us time work marks = record { lent = (l, a); counts = refl; rows = own-sound _ _ left-sound }
 
   moved-left : (other : Tables) → Lent (held (heldAfter cs .counts) t) other → LeftBy cs (heldAfter cs .counts) other
   moved-left other m = record {
@@ -74,6 +74,6 @@ leaving = record {
     };
   };
   backward = λ cs c t l v time work marks. left-by (λ k. LeftBy (backward t v time work marks ∷ cs) k t) l (backward-left cs t (l .lent) (l .rows) v time work marks);
-  forward = λ cs c t l u time work marks. left-by (λ k. LeftBy (forward t u time work marks ∷ cs) k t) l (forward-left cs t (l .lent) (l .rows) u time work marks);
+  forward = λ cs c t l us time work marks. left-by (λ k. LeftBy (forward t us time work marks ∷ cs) k t) l (forward-left cs t (l .lent) (l .rows) us time work marks);
   moved = λ cs c t l other. left-by (λ k. Lent (held k t) other → LeftBy cs k other) l (moved-left cs t (l .lent) (l .rows) other);
 }

@@ -9,6 +9,7 @@ pub mod Matching
 pub mod Held
 pub mod Left
 pub mod Demand3
+pub mod OneEntity
 -- What the edges stand for, and demand 2
 pub mod KeptOnly
 pub mod Counted
@@ -30,6 +31,7 @@ pub mod WorkedAnswers
 pub mod NoEdge
 pub mod WorkedEvents
 pub mod LongerPaths
+pub mod OwnIntakes
 pub mod GainDropped
 pub mod Refuted
 -- What the public calls carry

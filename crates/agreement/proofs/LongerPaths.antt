@@ -14,6 +14,7 @@ use Rattle.rules.specs.History.{Item, kept, accepted, into, since, Reached}
 use Rattle.causality.proofs.Strict.{Among, among-nil, among-cons, all-mem}
 use Rattle.agreement.specs.Demand3.{BackwardAgrees, ForwardAgrees}
 use Rattle.agreement.specs.Refuted.{longerPlain}
+use Rattle.agreement.proofs.OneEntity.{one-entity}
 use Rattle.agreement.proofs.WorkedEvents.{event, items-by-7, computed}
 
 abbrev longer : List Item
@@ -35,10 +36,10 @@ montage-back b a z =
     (subst (λ (hs : List Item). PathBy (accepted hs) 8 0 3) (sym (computed .longer)) (study-to-montage, λ e m. all-mem (λ d. d .time ≤ 8) (study-to-montage .path) (omega arith, (omega arith, tt)) m))
 
 -- the study has no intake
-pub study-forward : {work marks : List ℕ} (f : ForwardTrace) → ForwardAgrees longerPlain 0 4 work marks f → f .answer .refusal ≡ 0 → getD (f .marks) 3 0 ≡ 1
+pub study-forward : {work marks : List ℕ} (f : ForwardTrace) → ForwardAgrees longerPlain (0 ∷ []) 4 work marks f → f .answer .refusal ≡ 0 → getD (f .marks) 3 0 ≡ 1
 unfolding since into
 study-forward f a z =
-    a .marks-are z .marked 3 (omega (arith, computed .entities)) .1 (subst (λ (hs : List Item). Reached 0 4 hs 3) (sym (computed .longer)) study-to-montage)
+    one-entity .of-one longerPlain 0 4 _ _ f .0 a .marks-are z .marked 3 (omega (arith, computed .entities)) .1 (subst (λ (hs : List Item). Reached 0 4 hs 3) (sym (computed .longer)) study-to-montage)
 
 -- the event at 8 is the montage's intake, and nothing is accepted after it
 montage-alone : Reached 3 8 longer 1 → ⊥
@@ -49,6 +50,6 @@ montage-alone p = none (p .path) (p .links) (p .members)
     none [] k m = omega arith
     none (e ∷ es) k m = List·Memᴰ·not-nil (m e (List·Memᴰ·head refl))
 
-pub montage-forward : {work marks : List ℕ} (f : ForwardTrace) → ForwardAgrees longerPlain 3 8 work marks f → f .answer .refusal ≡ 0 → getD (f .marks) 1 0 ≡ 1 → ⊥
+pub montage-forward : {work marks : List ℕ} (f : ForwardTrace) → ForwardAgrees longerPlain (3 ∷ []) 8 work marks f → f .answer .refusal ≡ 0 → getD (f .marks) 1 0 ≡ 1 → ⊥
 montage-forward f a z m =
-    montage-alone (subst (λ (hs : List Item). Reached 3 8 hs 1) (computed .longer) (a .marks-are z .marked 1 (omega (arith, computed .entities)) .0 m))
+    montage-alone (subst (λ (hs : List Item). Reached 3 8 hs 1) (computed .longer) (one-entity .of-one longerPlain 3 8 _ _ f .0 a .marks-are z .marked 1 (omega (arith, computed .entities)) .0 m))

@@ -154,4 +154,4 @@ matches (batch t file ∷ cs) a =
     let z = batch-ready (capacityOf t) (capacity-within t) _ _ _ (lent-ready _ _ (matches cs (a .1)) t (a .0)) file in
     record { taken = z .taken; alike = z .alike }
 matches (backward t v time work marks ∷ cs) a = let m = matches cs (a .1) in record { taken = m .taken; alike = lent-alike _ _ m t (a .0) }
-matches (forward t u time work marks ∷ cs) a = let m = matches cs (a .1) in record { taken = m .taken; alike = lent-alike _ _ m t (a .0) }
+matches (forward t us time work marks ∷ cs) a = let m = matches cs (a .1) in record { taken = m .taken; alike = lent-alike _ _ m t (a .0) }

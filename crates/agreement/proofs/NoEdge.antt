@@ -3,15 +3,14 @@
 use Prim.Native.Nat.{ℕ, _≤_}
 use native.Mathlib.Omega.{arith}
 use mathlib.Core.Path.{_≡_, refl, sym, _∙_, subst}
-use mathlib.Core.List.{List}
+use mathlib.Core.List.{List, [], _∷_, List·Memᴰ·eq-of-singleton}
 use lib.ListN.{length}
 use Rattle.rows.specs.declared.Counts.{Counts}
 use Rattle.rules.specs.Trail.{Tables, Trail, trailOf}
 use Rattle.rules.specs.Start.{OnChain}
 use Rattle.rules.specs.Backward.{BackwardMarks, backwardOf}
 use Rattle.closure.proofs.StartVersion.{onChain-in}
-use Rattle.closure.proofs.Traces.{passed-entity}
-use Rattle.closure.proofs.Checked.{number-passed, passed-rows}
+use Rattle.closure.proofs.Checked.{number-passed, passed-rows, passed-entity}
 use Rattle.closure.proofs.ByRelations.{traces-by-relations}
 use Rattle.agreement.specs.Demand3.{BackwardAgrees}
 use Rattle.agreement.specs.Refuted.{workedPlain}
@@ -28,11 +27,11 @@ module _ (c : Counts) (t : Tables) (work marks : List ℕ) (e : c .edges ≡ 0) 
   pub no-edge-traced : ⊥
   no-edge-traced =
       let r = traces-by-relations .backward c t 2 6 work marks _ .0 refl in
-      let z : backwardOf c t 2 6 work marks .answer .refusal ≡ 0 = g .refusal ∙ not-refused 2 work marks (omega arith) l j in
-      let p = number-passed c t 2 work marks (sym (r .refusal) ∙ z) in
+      let z : backwardOf c t 2 6 work marks .answer .refusal ≡ 0 = g .refusal ∙ not-refused (2 ∷ []) work marks (λ x i. let q = List·Memᴰ·eq-of-singleton i in omega arith) l j in
+      let p = number-passed c t (2 ∷ []) work marks (sym (r .refusal) ∙ z) in
       let b = r .traced z in
       let y = backward-is (rows .p4) (backwardOf c t 2 6 work marks) g z .0 0 (omega arith) in
       let i = passed-entity c t 2 work marks p in
       let m = b .2 .entities .marked 0 .0 (omega arith, y) in
-      let o = onChain-in (trailOf c t) (passed-rows c t 2 work marks p) i (on-chain e (b .1 .on-chain) (m .1)) .1 in
+      let o = onChain-in (trailOf c t) (passed-rows c t (2 ∷ []) work marks p) i (on-chain e (b .1 .on-chain) (m .1)) .1 in
       omega (arith, m .2, o)

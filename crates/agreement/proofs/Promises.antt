@@ -27,22 +27,21 @@ module _ (c : Counts) (t : Tables) where
         holds = λ cs l. demand2 .holds _ _ _ (after-batch cs c t l file);
       })
 
-  module _ (x time : ℕ) (work marks : List ℕ) where
-    pub backward-promise : (b : BackwardTrace) → b ≡ backwardOf c t x time work marks → BackwardPromise c t x time work marks b
-    backward-promise b q =
-        subst (BackwardPromise c t x time work marks) (sym q)
-        (record {
-          traced = traces-by-relations .backward c t x time work marks _ .0 refl;
-          agrees = λ cs l. next-backward l x time work marks;
-        })
+  pub backward-promise : (v time : ℕ) (work marks : List ℕ) (b : BackwardTrace) → b ≡ backwardOf c t v time work marks → BackwardPromise c t v time work marks b
+  backward-promise v time work marks b q =
+      subst (BackwardPromise c t v time work marks) (sym q)
+      (record {
+        traced = traces-by-relations .backward c t v time work marks _ .0 refl;
+        agrees = λ cs l. next-backward l v time work marks;
+      })
 
-    pub forward-promise : (f : ForwardTrace) → f ≡ forwardOf c t x time work marks → ForwardPromise c t x time work marks f
-    forward-promise f q =
-        subst (ForwardPromise c t x time work marks) (sym q)
-        (record {
-          traced = traces-by-relations .forward c t x time work marks _ .0 refl;
-          agrees = λ cs l. next-forward l x time work marks;
-        })
+  pub forward-promise : (us : List ℕ) (time : ℕ) (work marks : List ℕ) (f : ForwardTrace) → f ≡ forwardOf c t us time work marks → ForwardPromise c t us time work marks f
+  forward-promise us time work marks f q =
+      subst (ForwardPromise c t us time work marks) (sym q)
+      (record {
+        traced = traces-by-relations .forward c t us time work marks _ .0 refl;
+        agrees = λ cs l. next-forward l us time work marks;
+      })
 
   pub log-promise : (out : List ℕ) (k : KeptLog) → k ≡ keptLogOf c t out → LogPromise c t out k
   log-promise out k q = subst (LogPromise c t out) (sym q) (λ cs l. round-trip cs c t l out)

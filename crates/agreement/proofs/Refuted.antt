@@ -3,7 +3,7 @@ use Prim.Native.Nat.{ℕ}
 use native.Mathlib.Omega.{arith}
 use mathlib.Core.Path.{_≡_, refl, sym, _∙_, ap}
 use mathlib.Core.Bool.{Bool, true, false, cond}
-use mathlib.Core.List.{List}
+use mathlib.Core.List.{List, [], _∷_, List·Memᴰ·head, List·Memᴰ·tail, List·Memᴰ·not-nil, List·Memᴰ·eq-of-singleton}
 use lib.ListN.{length, replicate}
 use lib.Dec.{leb, ltb}
 use Rattle.refusals.specs.declared.Refusal.the-variants.{Unsound, Undeclared, BufferShort}
@@ -18,25 +18,41 @@ use Rattle.rules.specs.declared.BatchAnswer.{BatchAnswer}
 use Rattle.rules.specs.declared.BackwardAnswer.{BackwardAnswer}
 use Rattle.rules.specs.PlainList.{worked}
 use Rattle.rules.specs.StandsFor.{standsFor, lastTime}
-use Rattle.rules.specs.Backward.{traceRefusals}
+use Rattle.rules.specs.Backward.{bufferChecks, traceRefusals}
+use Rattle.rules.specs.Members.{IsEarliest, empty}
 use Rattle.rules.specs.CallCases.{execves}
 use Rattle.rules.proofs.Computed.{computed}
+use Rattle.rules.proofs.MemberCases.{memberCases}
+use Rattle.rules.proofs.Members.{earliest-one}
+use Rattle.closure.proofs.Checked.{undeclared-refused}
 use Rattle.agreement.specs.Refuted.{workedPlain, NoAnswer, Refuted}
-use Rattle.agreement.proofs.WorkedAnswers.{rows, entities-are, versions-are, edges-are, accepted-are, last-is, stager-row, report-version, edge-at-1, edge-at-6, answer-is, p4-count, not-refused, log-not-refused, backward-is, forward-is}
+use Rattle.agreement.proofs.WorkedAnswers.{rows, entities-are, versions-are, edges-are, accepted-are, last-is, stager-row, report-version, edge-at-1, edge-at-6, answer-is, p4-count, four, not-refused, log-not-refused, backward-is, forward-is}
 use Rattle.agreement.proofs.NoEdge.{no-edge-traced}
 use Rattle.agreement.proofs.LongerPaths.{montage-back, study-forward, montage-forward}
+use Rattle.agreement.proofs.OwnIntakes.{subject-not-marked}
 use Rattle.agreement.proofs.GainDropped.{time-6-kept}
 
 -- the plain list refuses no trace with 16
-not-16 : (rs : List Record) (x : ℕ) (work marks : List ℕ) → numberOf (firstOf (traceRefusals (worked rs .counts) x work marks)) ≡ refusalNo Unsound → ⊥
+not-16 : (rs : List Record) (xs work marks : List ℕ) → numberOf (firstOf (traceRefusals (worked rs .counts) xs work marks)) ≡ refusalNo Unsound → ⊥
 unfolding firstOf
-not-16 rs x work marks = go (leb (worked rs .counts .entities) x) (ltb (length work) (worked rs .counts .versions)) (ltb (length marks) (worked rs .counts .entities))
+not-16 rs [] work marks = go (ltb (length work) (worked rs .counts .versions)) (ltb (length marks) (worked rs .counts .entities))
   where
-    go : (a b d : Bool) → numberOf (cond a (Refused Undeclared) (cond b (Refused BufferShort) (cond d (Refused BufferShort) Passed))) ≡ refusalNo Unsound → ⊥
-    go true b d q = omega arith
-    go false true d q = omega arith
-    go false false true q = omega arith
-    go false false false q = omega arith
+    go : (b d : Bool) → numberOf (cond b (Refused BufferShort) (cond d (Refused BufferShort) Passed)) ≡ refusalNo Unsound → ⊥
+    go true d q = omega arith
+    go false true q = omega arith
+    go false false q = omega arith
+not-16 rs (x ∷ xs) work marks = go (leb (worked rs .counts .entities) x) (not-16 rs xs work marks)
+  where
+    go : (a : Bool) → (numberOf (firstOf (traceRefusals (worked rs .counts) xs work marks)) ≡ refusalNo Unsound → ⊥)
+        → numberOf (cond a (Refused Undeclared) (firstOf (traceRefusals (worked rs .counts) xs work marks))) ≡ refusalNo Unsound → ⊥
+    go true ih q = omega arith
+    go false ih q = ih q
+
+-- the worked trail has no entity 4
+four-undeclared : (work marks : List ℕ) → numberOf (firstOf (traceRefusals (worked workedPlain .counts) (1 ∷ 4 ∷ []) work marks)) ≡ 5
+four-undeclared work marks =
+    let n = worked workedPlain .counts in
+    ap numberOf (undeclared-refused (n .entities) (bufferChecks n work marks) (1 ∷ 4 ∷ []) 4 (List·Memᴰ·tail (List·Memᴰ·head refl)) (omega (arith, four)))
 
 -- of two execves and a read that repeats both, the first execve's edge stands for that event alone, the second's for the read too
 execves-edges : worked execves .counts .edges ≡ 2
@@ -76,10 +92,19 @@ refuted = record {
   forward-other-count = λ work marks f z w a. w (forward-is (rows .p5) f a z .1);
   intake-zero = λ work marks f z w a. omega (arith, forward-is (rows .p6) f a z .2);
   intake-free = λ work marks f z w a. w (forward-is (rows .p6) f a z .2);
-  backward-refused = λ work marks b z a. not-16 workedPlain 2 work marks (sym (a .refusal) ∙ z);
-  forward-refused = λ work marks f z a. not-16 workedPlain 3 work marks (sym (a .refusal) ∙ z);
-  backward-always-refused = λ work marks b l m w a. w (a .refusal ∙ not-refused 2 work marks (omega arith) l m);
-  forward-always-refused = λ work marks f l m w a. w (a .refusal ∙ not-refused 3 work marks (omega arith) l m);
+  intake-latest = λ work marks f z w a. omega (arith, forward-is (memberCases .two) f a z .2);
+  intake-of-none = λ work marks f z w a. w (earliest-one (a .intake-is z) (IsEarliest.empty refl refl));
+  first-left-out = λ work marks f z w a. omega (arith, forward-is (memberCases .studies) f a z .0 0 (omega arith));
+  last-left-out = λ work marks f z w a. omega (arith, forward-is (memberCases .studies) f a z .0 3 (omega arith));
+  counts-added = λ work marks f z w a. omega (arith, forward-is (memberCases .studies) f a z .1);
+  marks-of-none = λ work marks f z w a. List·Memᴰ·not-nil (a .marks-are z .marked 0 (omega (arith, four)) .0 w .1);
+  all-from-the-earliest = λ work marks f z w a. subject-not-marked f a z w;
+  undeclared-taken = λ work marks f z w a. omega (arith, a .refusal, four-undeclared work marks);
+  none-refused = λ work marks f l m w a. w (a .refusal ∙ not-refused [] work marks (λ x i. absurd (List·Memᴰ·not-nil i)) l m);
+  backward-refused = λ work marks b z a. not-16 workedPlain (2 ∷ []) work marks (sym (a .refusal) ∙ z);
+  forward-refused = λ work marks f z a. not-16 workedPlain (3 ∷ []) work marks (sym (a .refusal) ∙ z);
+  backward-always-refused = λ work marks b l m w a. w (a .refusal ∙ not-refused (2 ∷ []) work marks (λ x i. let q = List·Memᴰ·eq-of-singleton i in omega arith) l m);
+  forward-always-refused = λ work marks f l m w a. w (a .refusal ∙ not-refused (3 ∷ []) work marks (λ x i. let q = List·Memᴰ·eq-of-singleton i in omega arith) l m);
   no-edge = λ c t w h. omega (arith, edges-are h);
   no-edge-traced = no-edge-traced;
   time-6-dropped = λ c t w h. omega (arith, edges-are h);

@@ -4,8 +4,8 @@ use mathlib.Core.Path.{_≡_, refl, sym, _∙_, ap}
 use mathlib.Core.Bool.{true, not}
 use mathlib.Core.List.{List, [], _∷_, _++_}
 use lib.ListN.{length}
-use lib.Dec.{leb, ltb}
-use Rattle.refusals.specs.declared.Refusal.the-variants.{Unsound, Undeclared, BufferShort, OutputShort}
+use lib.Dec.{ltb}
+use Rattle.refusals.specs.declared.Refusal.the-variants.{Unsound, BufferShort, OutputShort}
 use Rattle.refusals.specs.declared.Checked.{Checked}
 use Rattle.refusals.specs.declared.Checked.the-variants.{Passed, Refused}
 use Rattle.refusals.specs.Refusals.{check, firstOf, numberOf}
@@ -17,10 +17,11 @@ use Rattle.rules.specs.Trail.{Tables, capacityOf, Trail, trailOf}
 use Rattle.rules.specs.Sound.{isSound}
 use Rattle.rules.specs.Batch.{ifRefused}
 use Rattle.rules.specs.Marks.{ones, overlaid}
-use Rattle.rules.specs.Backward.{backwardEntities, traceChecks, BackwardTrace, backwardOf}
+use Rattle.rules.specs.Backward.{backwardEntities, undeclaredChecks, traceChecks, BackwardTrace, backwardOf}
 use Rattle.rules.specs.Forward.{forwardEntities, forwardIntake, ForwardTrace, forwardOf}
 use Rattle.rules.specs.KeptLog.{declarationRecord, eventRecord, encodedBelow, logBytes, logChecks, keptLog, keptLogOf}
-use Rattle.closure.proofs.Traces.{passed-entity}
+use Rattle.closure.specs.Arcs.{AllBelow}
+use Rattle.closure.proofs.Checked.{passed-entities, passed-entity}
 use Rattle.kept_log.proofs.Same.{encodedBelow-same}
 use Rattle.agreement.specs.RoundTrip.{SameTrail, SameCalls}
 
@@ -34,8 +35,8 @@ pub record SameTraces (T U : Trail) : Type 0 where
   pub trail : SameTrail T U
   pub versions : U .counts .versions ≡ T .counts .versions
   pub backward : (v time : ℕ) → v < T .counts .entities → backwardEntities U v time ≡ backwardEntities T v time
-  pub forward : (u time : ℕ) → u < T .counts .entities → forwardEntities U u time ≡ forwardEntities T u time
-  pub intake : (u time : ℕ) → u < T .counts .entities → forwardIntake U u time ≡ forwardIntake T u time
+  pub forward : (us : List ℕ) (time : ℕ) → AllBelow (T .counts .entities) us → forwardEntities U us time ≡ forwardEntities T us time
+  pub intake : (us : List ℕ) (time : ℕ) → AllBelow (T .counts .entities) us → forwardIntake U us time ≡ forwardIntake T us time
 
 module _ (c : Counts) (t : Tables) (d : Counts) (u : Tables) (s : SameTraces (trailOf c t) (trailOf d u)) (p : isSound (capacityOf t) (trailOf c t) ≡ true)
     (q : isSound (capacityOf u) (trailOf d u) ≡ true) where
@@ -44,43 +45,42 @@ module _ (c : Counts) (t : Tables) (d : Counts) (u : Tables) (s : SameTraces (tr
 
   -- A trace
 
-  module _ (x time : ℕ) (work marks : List ℕ) where
-    checked-same : firstOf (traceChecks d u x work marks) ≡ firstOf (traceChecks c t x work marks)
-    unfolding traceChecks
-    checked-same = λ j.
-        firstOf (
-        check (not (sound-same j)) Unsound
-        ∷ check (leb (s .trail .entities j) x) Undeclared
-        ∷ check (ltb (length work) (s .versions j)) BufferShort
-        ∷ check (ltb (length marks) (s .trail .entities j)) BufferShort
-        ∷ []
-        )
+  checked-same : (xs work marks : List ℕ) → firstOf (traceChecks d u xs work marks) ≡ firstOf (traceChecks c t xs work marks)
+  unfolding traceChecks
+  checked-same xs work marks = λ j.
+      firstOf (
+      check (not (sound-same j)) Unsound
+      ∷ (undeclaredChecks (s .trail .entities j) xs
+      ++ (check (ltb (length work) (s .versions j)) BufferShort ∷ check (ltb (length marks) (s .trail .entities j)) BufferShort ∷ []))
+      )
 
+  module _ (x time : ℕ) (work marks : List ℕ) where
     backward-answer : backwardOf d u x time work marks .answer ≡ backwardOf c t x time work marks .answer
     unfolding backwardOf
     backward-answer =
-        rw checked-same
-        (ifRefused-same (λ (b : BackwardTrace). b .answer) (firstOf (traceChecks c t x work marks)) _ _ _
+        rw (checked-same (x ∷ []) work marks)
+        (ifRefused-same (λ (b : BackwardTrace). b .answer) (firstOf (traceChecks c t (x ∷ []) work marks)) _ _ _
         (λ h. λ j. record { refusal = 0; count = ones (s .backward x time (passed-entity c t x work marks h) j) }))
 
     backward-marks : backwardOf d u x time work marks .marks ≡ backwardOf c t x time work marks .marks
     unfolding backwardOf
     backward-marks =
-        rw checked-same
-        (ifRefused-same (λ (b : BackwardTrace). b .marks) (firstOf (traceChecks c t x work marks)) _ _ _ (λ h. ap (λ (m : List ℕ). overlaid m marks) (s .backward x time (passed-entity c t x work marks h))))
+        rw (checked-same (x ∷ []) work marks)
+        (ifRefused-same (λ (b : BackwardTrace). b .marks) (firstOf (traceChecks c t (x ∷ []) work marks)) _ _ _ (λ h. ap (λ (m : List ℕ). overlaid m marks) (s .backward x time (passed-entity c t x work marks h))))
 
-    forward-answer : forwardOf d u x time work marks .answer ≡ forwardOf c t x time work marks .answer
+  module _ (us : List ℕ) (time : ℕ) (work marks : List ℕ) where
+    forward-answer : forwardOf d u us time work marks .answer ≡ forwardOf c t us time work marks .answer
     unfolding forwardOf
     forward-answer =
-        rw checked-same
-        (ifRefused-same (λ (b : ForwardTrace). b .answer) (firstOf (traceChecks c t x work marks)) _ _ _
-        (λ h. λ j. record { refusal = 0; count = ones (s .forward x time (passed-entity c t x work marks h) j); intake = s .intake x time (passed-entity c t x work marks h) j }))
+        rw (checked-same us work marks)
+        (ifRefused-same (λ (b : ForwardTrace). b .answer) (firstOf (traceChecks c t us work marks)) _ _ _
+        (λ h. λ j. record { refusal = 0; count = ones (s .forward us time (passed-entities c t us work marks h) j); intake = s .intake us time (passed-entities c t us work marks h) j }))
 
-    forward-marks : forwardOf d u x time work marks .marks ≡ forwardOf c t x time work marks .marks
+    forward-marks : forwardOf d u us time work marks .marks ≡ forwardOf c t us time work marks .marks
     unfolding forwardOf
     forward-marks =
-        rw checked-same
-        (ifRefused-same (λ (b : ForwardTrace). b .marks) (firstOf (traceChecks c t x work marks)) _ _ _ (λ h. ap (λ (m : List ℕ). overlaid m marks) (s .forward x time (passed-entity c t x work marks h))))
+        rw (checked-same us work marks)
+        (ifRefused-same (λ (b : ForwardTrace). b .marks) (firstOf (traceChecks c t us work marks)) _ _ _ (λ h. ap (λ (m : List ℕ). overlaid m marks) (s .forward us time (passed-entities c t us work marks h))))
 
   -- The kept log
 

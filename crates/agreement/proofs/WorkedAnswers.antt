@@ -7,7 +7,7 @@ use mathlib.Core.Bool.{Bool, cond}
 use mathlib.Core.List.{List, []}
 use lib.ListN.{length, getD, replicate}
 use lib.Dec.{ltb}
-use borrow.Author.Tests.{le-ltb, lt-leb}
+use borrow.Author.Tests.{le-ltb}
 use Rattle.refusals.specs.declared.Refusal.the-variants.{OutputShort}
 use Rattle.refusals.specs.Refusals.{refusalNo, firstOf, numberOf}
 use Rattle.refusals.proofs.Checks.{all-false-passed}
@@ -20,14 +20,16 @@ use Rattle.rules.specs.declared.BatchAnswer.{BatchAnswer}
 use Rattle.rules.specs.declared.BackwardAnswer.{BackwardAnswer}
 use Rattle.rules.specs.declared.ForwardAnswer.{ForwardAnswer}
 use Rattle.rules.specs.Trail.{Tables, trailOf, counts, freshCounts, none}
-use Rattle.rules.specs.Backward.{traceRefusals, BackwardTrace, backwardOf}
+use Rattle.rules.specs.Backward.{bufferChecks, traceRefusals, BackwardTrace, backwardOf}
 use Rattle.rules.specs.Forward.{ForwardTrace}
 use Rattle.rules.specs.KeptLog.{logBytes}
 use Rattle.rules.specs.PlainList.{worked}
 use Rattle.rules.specs.Calls.{plainAfter}
 use Rattle.rules.specs.Worked.{room, file, batch, backward, forward, WorkedTrail}
 use Rattle.rules.proofs.Cases.{cases}
+use Rattle.closure.specs.Arcs.{AllBelow}
 use Rattle.closure.specs.Same.{SameRows}
+use Rattle.closure.proofs.Checked.{declared-next}
 use Rattle.kept_log.proofs.LogRecords.{length-logBytes}
 use Rattle.agreement.specs.Left.{LeftBy}
 use Rattle.agreement.specs.Demand2.{Holds, Answered}
@@ -102,12 +104,15 @@ four = ap (λ (c : Counts). c .entities) (sym (worked-holds .counts)) ∙ entiti
 five : worked workedPlain .counts .versions ≡ 5
 five = ap (λ (c : Counts). c .versions) (sym (worked-holds .counts)) ∙ versions-are worked-holds
 
--- a trace of one of the four entities with buffers that are long enough is not refused
-pub not-refused : (x : ℕ) (work marks : List ℕ) → x < 4 → 5 ≤ length work → 4 ≤ length marks → numberOf (firstOf (traceRefusals (worked workedPlain .counts) x work marks)) ≡ 0
-not-refused x work marks l w m =
+-- a trace of some of the four entities with buffers that are long enough is not refused
+pub not-refused : (xs work marks : List ℕ) → AllBelow 4 xs → 5 ≤ length work → 4 ≤ length marks
+    → numberOf (firstOf (traceRefusals (worked workedPlain .counts) xs work marks)) ≡ 0
+not-refused xs work marks l w m =
     let n = worked workedPlain .counts in
+    let cs = bufferChecks n work marks in
     ap numberOf
-    (all-false-passed _ (lt-leb (n .entities) x (omega (arith, four)), (le-ltb (length work) (n .versions) (omega (arith, five)), (le-ltb (length marks) (n .entities) (omega (arith, four)), tt))))
+    (declared-next (n .entities) cs xs (λ x i. omega (arith, four, l x i))
+    ∙ all-false-passed cs (le-ltb (length work) (n .versions) (omega (arith, five)), (le-ltb (length marks) (n .entities) (omega (arith, four)), tt)))
 
 -- a writer with an output of 104 bytes or more is not refused
 pub log-not-refused : (out : List ℕ) → 104 ≤ length out → cond (ltb (length out) (length (logBytes (worked workedPlain)))) (refusalNo OutputShort) 0 ≡ 0
@@ -131,13 +136,13 @@ module _ {v time n : ℕ} {marks : List ℕ} (q : (backward v time .answer ≡ r
       let s = determined .backward workedPlain v time _ _ _ _ b (backward v time) a backward-right z (ap (λ (r : BackwardAnswer). r .refusal) (q .0)) in
       (marks-are (b .marks) (s .0) (q .1), s .1 ∙ ap (λ (r : BackwardAnswer). r .count) (q .0))
 
-module _ {u time n i : ℕ} {marks : List ℕ} (q : (forward u time .answer ≡ record { refusal = 0; count = n; intake = i }) × (forward u time .marks ≡ marks)) where
-  forward-right : ForwardAgrees workedPlain u time (replicate 6 9) (replicate 5 9) (forward u time)
+module _ {us : List ℕ} {time n i : ℕ} {marks : List ℕ} (q : (forward us time .answer ≡ record { refusal = 0; count = n; intake = i }) × (forward us time .marks ≡ marks)) where
+  forward-right : ForwardAgrees workedPlain us time (replicate 6 9) (replicate 5 9) (forward us time)
   unfolding forward
-  forward-right = next-forward worked-left u time _ _
+  forward-right = next-forward worked-left us time _ _
 
-  pub forward-is : {work lent : List ℕ} (f : ForwardTrace) → ForwardAgrees workedPlain u time work lent f → f .answer .refusal ≡ 0
+  pub forward-is : {work lent : List ℕ} (f : ForwardTrace) → ForwardAgrees workedPlain us time work lent f → f .answer .refusal ≡ 0
       → SameMarks 4 (f .marks) marks × (f .answer .count ≡ n) × (f .answer .intake ≡ i)
   forward-is f a z =
-      let s = determined .forward workedPlain u time _ _ _ _ f (forward u time) a forward-right z (ap (λ (r : ForwardAnswer). r .refusal) (q .0)) in
+      let s = determined .forward workedPlain us time _ _ _ _ f (forward us time) a forward-right z (ap (λ (r : ForwardAnswer). r .refusal) (q .0)) in
       (marks-are (f .marks) (s .0) (q .1), s .1 ∙ ap (λ (r : ForwardAnswer). r .count) (q .0), s .2 ∙ ap (λ (r : ForwardAnswer). r .intake) (q .0))

@@ -17,6 +17,7 @@ use Rattle.rules.specs.Record.{declarationRefusals, earlyRefusals, roomRefusals
 use Rattle.rules.specs.Batch.{readFrom, contentsOf}
 use Rattle.rules.specs.History.{Item, kept, dropped}
 use Rattle.rules.specs.PlainList.{put, worked, itemsOf, added, addedBy}
+use Rattle.rules.specs.MemberCases.{writtenPlain}
 use Rattle.agreement.specs.Refuted.{workedPlain, longerPlain}
 
 abbrev pub event : Kind → ℕ → ℕ → ℕ → Event
@@ -32,7 +33,9 @@ pub record Computed : Type 0 where
   pub items : itemsOf workedPlain ≡ items-by-7
   pub longer : itemsOf longerPlain ≡ kept (event Write 1 3 8) ∷ items-by-7
   pub entities : worked longerPlain .counts .entities ≡ 4
+  pub written : itemsOf writtenPlain ≡ kept (event Write 1 0 2) ∷ kept (event Read 0 1 1) ∷ []
+  pub written-entities : worked writtenPlain .counts .entities ≡ 3
 
 pub computed : Computed
 unfolding firstOf entityAt versionAt edgeAt entityCapacity versionCapacity edgeCapacity kindOf headerChecks declarationChecks eventChecks decodeOf decodeFrom isObject isSubject sourceFits targetFits mayFollow goesTo newestTo leaves repeatOf hasOutgoing decisionOf declarationRefusals earlyRefusals roomRefusals eventRefusals refusalOf changeOf readFrom contentsOf put added addedBy
-computed = record { items = refl; longer = refl; entities = refl }
+computed = record { items = refl; longer = refl; entities = refl; written = refl; written-entities = refl }

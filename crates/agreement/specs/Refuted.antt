@@ -1,7 +1,8 @@
 -- Document 01, "Agreement": "These are shut out". The claims determine counts, rows in use, marks, count, intake and the numbers that the
 -- calls return (`Determined`, and equations), so a wrong one contradicts them. `Refuted` says it of each wrong answer that the document
--- names, and of wrong counts and last times of edges (document 02, 2.1), for the worked list of calls, that list with one event more, or
--- two execves and a read: no answer that is wrong in this way, whatever it is otherwise, is one of which the claim holds.
+-- names, of wrong counts and last times of edges (document 02, 2.1), and of wrong traces of a list (2.2), for the worked list of calls, that
+-- list with one event more, or a file of two or three events: no answer that is wrong in this way, whatever it is otherwise, is one of which
+-- the claim holds.
 use Prim.Native.Nat.{ℕ, _≤_, _<_}
 use mathlib.Core.Path.{_≡_}
 use mathlib.Core.List.{List, [], _∷_, _++_, List·Memᴰ}
@@ -24,6 +25,7 @@ use Rattle.rules.specs.PlainList.{worked, itemsOf}
 use Rattle.rules.specs.Calls.{Call, batch, plainAfter}
 use Rattle.rules.specs.Worked as worked-trail
 use Rattle.rules.specs.CallCases.{execves}
+use Rattle.rules.specs.MemberCases.{writtenPlain}
 use Rattle.closure.specs.Same.{SameRows}
 use Rattle.agreement.specs.Demand2.{Holds, Answered}
 use Rattle.agreement.specs.Demand3.{BackwardAgrees, ForwardAgrees, GainsAreKept}
@@ -38,8 +40,8 @@ pub record Determined : Type 0 where
   pub backward : (rs : List Record) (v time : ℕ) (work marks work′ marks′ : List ℕ) (b b′ : BackwardTrace) → BackwardAgrees rs v time work marks b
       → BackwardAgrees rs v time work′ marks′ b′ → b .answer .refusal ≡ 0 → b′ .answer .refusal ≡ 0
       → SameMarks (worked rs .counts .entities) (b .marks) (b′ .marks) × (b .answer .count ≡ b′ .answer .count)
-  pub forward : (rs : List Record) (u time : ℕ) (work marks work′ marks′ : List ℕ) (f f′ : ForwardTrace) → ForwardAgrees rs u time work marks f
-      → ForwardAgrees rs u time work′ marks′ f′ → f .answer .refusal ≡ 0 → f′ .answer .refusal ≡ 0
+  pub forward : (rs : List Record) (us : List ℕ) (time : ℕ) (work marks work′ marks′ : List ℕ) (f f′ : ForwardTrace) → ForwardAgrees rs us time work marks f
+      → ForwardAgrees rs us time work′ marks′ f′ → f .answer .refusal ≡ 0 → f′ .answer .refusal ≡ 0
       → SameMarks (worked rs .counts .entities) (f .marks) (f′ .marks) × (f .answer .count ≡ f′ .answer .count) × (f .answer .intake ≡ f′ .answer .intake)
   pub holds : (rs : List Record) (c c′ : Counts) (t t′ : Tables) → Holds rs c t → Holds rs c′ t′ → (c ≡ c′) × SameRows (trailOf c t) (trailOf c′ t′)
   pub answer : (rs : List Record) (t : Tables) (file : List ℕ) (rs′ : List Record) (a a′ : BatchAnswer) → Answered rs t file rs′ a
@@ -65,8 +67,8 @@ TakenAgainClaim b = TakenAgain (worked-trail.batch 8 .counts) (worked-trail.batc
 abbrev pub NoBackward : List Record → ℕ → ℕ → (BackwardTrace → Type 0) → Type 0
 NoBackward rs v time Wrong = (work marks : List ℕ) (b : BackwardTrace) → b .answer .refusal ≡ 0 → Wrong b → BackwardAgrees rs v time work marks b → ⊥
 
-abbrev pub NoForward : List Record → ℕ → ℕ → (ForwardTrace → Type 0) → Type 0
-NoForward rs u time Wrong = (work marks : List ℕ) (f : ForwardTrace) → f .answer .refusal ≡ 0 → Wrong f → ForwardAgrees rs u time work marks f → ⊥
+abbrev pub NoForward : List Record → List ℕ → ℕ → (ForwardTrace → Type 0) → Type 0
+NoForward rs us time Wrong = (work marks : List ℕ) (f : ForwardTrace) → f .answer .refusal ≡ 0 → Wrong f → ForwardAgrees rs us time work marks f → ⊥
 
 abbrev pub NoAnswer : ℕ → (BatchAnswer → Type 0) → Type 0
 NoAnswer n Wrong = (a : BatchAnswer) → Wrong a → Answered [] (worked-trail.room n) (worked-trail.file 1) (plainAfter (workedCalls n)) a → ⊥
@@ -81,45 +83,59 @@ OnlyMarked x marks = (y : ℕ) → y < 4 → getD marks y 0 ≡ 1 → y ≡ x
 pub record Refuted : Type 0 where
   -- "a trace marking only its own entity": P4, P5
   pub backward-only-itself : NoBackward workedPlain 2 6 (λ b. OnlyMarked 2 (b .marks))
-  pub forward-only-itself : NoForward workedPlain 3 0 (λ f. OnlyMarked 3 (f .marks))
+  pub forward-only-itself : NoForward workedPlain (3 ∷ []) 0 (λ f. OnlyMarked 3 (f .marks))
   -- "or always the same marks": P2 against P4, P5 against P8
   pub backward-same-marks : (work marks : List ℕ) (b b′ : BackwardTrace) → b .answer .refusal ≡ 0 → b′ .answer .refusal ≡ 0
       → SameMarks 4 (b .marks) (b′ .marks) → BackwardAgrees workedPlain 2 1 work marks b → BackwardAgrees workedPlain 2 6 work marks b′ → ⊥
   pub forward-same-marks : (work marks : List ℕ) (f f′ : ForwardTrace) → f .answer .refusal ≡ 0 → f′ .answer .refusal ≡ 0
-      → SameMarks 4 (f .marks) (f′ .marks) → ForwardAgrees workedPlain 3 0 work marks f → ForwardAgrees workedPlain 0 4 work marks f′ → ⊥
+      → SameMarks 4 (f .marks) (f′ .marks) → ForwardAgrees workedPlain (3 ∷ []) 0 work marks f → ForwardAgrees workedPlain (0 ∷ []) 4 work marks f′ → ⊥
   -- "Taking an edge from an older version of u for a repeat: time 6 is dropped and 2 vanishes from P5."
-  pub forward-report-missed : NoForward workedPlain 3 0 (λ f. getD (f .marks) 2 0 ≡ 0)
+  pub forward-report-missed : NoForward workedPlain (3 ∷ []) 0 (λ f. getD (f .marks) 2 0 ≡ 0)
   -- "Widening a version that already gave something: the montage appears in P3."
   pub backward-montage-at-4 : NoBackward workedPlain 2 4 (λ b. getD (b .marks) 3 0 ≡ 1)
   -- "Using all edges into the start version without looking at t: P3 again."
   pub backward-montage-at-5 : NoBackward workedPlain 2 5 (λ b. getD (b .marks) 3 0 ≡ 1)
   -- events at t or later alone: the stager and the report vanish from P8
-  pub forward-from-t-alone : NoForward workedPlain 0 4 (λ f. OnlyMarked 0 (f .marks))
+  pub forward-from-t-alone : NoForward workedPlain (0 ∷ []) 4 (λ f. OnlyMarked 0 (f .marks))
   -- edges followed against their direction: the study appears in P6
-  pub forward-study-at-4 : NoForward workedPlain 1 4 (λ f. getD (f .marks) 0 0 ≡ 1)
+  pub forward-study-at-4 : NoForward workedPlain (1 ∷ []) 4 (λ f. getD (f .marks) 0 0 ≡ 1)
   -- "its previous", and "going from a version to each one whose previous it is", left out: the edge from the study enters the stager's
   -- first version, the edge to the montage at 8 leaves its second
   pub backward-without-previous : NoBackward longerPlain 3 8 (λ b. getD (b .marks) 0 0 ≡ 0)
-  pub forward-without-version-steps : NoForward longerPlain 0 4 (λ f. getD (f .marks) 3 0 ≡ 0)
+  pub forward-without-version-steps : NoForward longerPlain (0 ∷ []) 4 (λ f. getD (f .marks) 3 0 ≡ 0)
   -- "through events accepted after the intake alone": the stager, which the montage gave to before 8
-  pub forward-before-intake : NoForward longerPlain 3 8 (λ f. getD (f .marks) 1 0 ≡ 1)
+  pub forward-before-intake : NoForward longerPlain (3 ∷ []) 8 (λ f. getD (f .marks) 1 0 ≡ 1)
   -- "the mark buffer gets 1 .., else 0": no other byte
   pub backward-other-byte : NoBackward workedPlain 2 4 (λ b. (getD (b .marks) 3 0 ≡ 0 → ⊥) × (getD (b .marks) 3 0 ≡ 1 → ⊥))
-  pub forward-other-byte : NoForward workedPlain 1 4 (λ f. (getD (f .marks) 0 0 ≡ 0 → ⊥) × (getD (f .marks) 0 0 ≡ 1 → ⊥))
+  pub forward-other-byte : NoForward workedPlain (1 ∷ []) 4 (λ f. (getD (f .marks) 0 0 ≡ 0 → ⊥) × (getD (f .marks) 0 0 ≡ 1 → ⊥))
   -- "the count is the number of ones in the mark buffer"
   pub backward-other-count : NoBackward workedPlain 2 6 (λ b. (b .answer .count ≡ 4 → ⊥))
-  pub forward-other-count : NoForward workedPlain 3 0 (λ f. (f .answer .count ≡ 3 → ⊥))
+  pub forward-other-count : NoForward workedPlain (3 ∷ []) 0 (λ f. (f .answer .count ≡ 3 → ⊥))
   -- "intakes picked freely": 0, or any but that of P6
-  pub intake-zero : NoForward workedPlain 1 4 (λ f. f .answer .intake ≡ 0)
-  pub intake-free : NoForward workedPlain 1 4 (λ f. (f .answer .intake ≡ 1 → ⊥))
-  -- "In such a list a trace is refused only with 5 or 14": not with 16, and not at all if the entity is declared and the buffers are
+  pub intake-zero : NoForward workedPlain (1 ∷ []) 4 (λ f. f .answer .intake ≡ 0)
+  pub intake-free : NoForward workedPlain (1 ∷ []) 4 (λ f. (f .answer .intake ≡ 1 → ⊥))
+  -- document 02, 2.2: the latest intake of the stager and the report at 6; of an empty list any but 0
+  pub intake-latest : NoForward workedPlain (1 ∷ 2 ∷ []) 6 (λ f. f .answer .intake ≡ 6)
+  pub intake-of-none : NoForward workedPlain [] 7 (λ f. (f .answer .intake ≡ 0 → ⊥))
+  -- the first or the last member left out; the counts of the members added up; an entity marked for an empty list
+  pub first-left-out : NoForward workedPlain (0 ∷ 3 ∷ []) 4 (λ f. getD (f .marks) 0 0 ≡ 0)
+  pub last-left-out : NoForward workedPlain (0 ∷ 3 ∷ []) 4 (λ f. getD (f .marks) 3 0 ≡ 0)
+  pub counts-added : NoForward workedPlain (0 ∷ 3 ∷ []) 4 (λ f. f .answer .count ≡ 6)
+  pub marks-of-none : NoForward workedPlain [] 7 (λ f. getD (f .marks) 0 0 ≡ 1)
+  -- all members from the earliest intake: the subject, from which 0 takes in at 2
+  pub all-from-the-earliest : NoForward writtenPlain (0 ∷ 2 ∷ []) 2 (λ f. getD (f .marks) 1 0 ≡ 1)
+  -- 5 for the first member only; an empty list refused though the buffers are long enough
+  pub undeclared-taken : NoForward workedPlain (1 ∷ 4 ∷ []) 6 (λ f. Unit {0})
+  pub none-refused : (work marks : List ℕ) (f : ForwardTrace) → 5 ≤ length work → 4 ≤ length marks → (f .answer .refusal ≡ 0 → ⊥)
+      → ForwardAgrees workedPlain [] 7 work marks f → ⊥
+  -- "In such a list a trace is refused only with 5 or 14": not with 16, and not at all if the entities are declared and the buffers are
   -- long enough
   pub backward-refused : (work marks : List ℕ) (b : BackwardTrace) → b .answer .refusal ≡ refusalNo Unsound → BackwardAgrees workedPlain 2 6 work marks b → ⊥
-  pub forward-refused : (work marks : List ℕ) (f : ForwardTrace) → f .answer .refusal ≡ refusalNo Unsound → ForwardAgrees workedPlain 3 0 work marks f → ⊥
+  pub forward-refused : (work marks : List ℕ) (f : ForwardTrace) → f .answer .refusal ≡ refusalNo Unsound → ForwardAgrees workedPlain (3 ∷ []) 0 work marks f → ⊥
   pub backward-always-refused : (work marks : List ℕ) (b : BackwardTrace) → 5 ≤ length work → 4 ≤ length marks → (b .answer .refusal ≡ 0 → ⊥)
       → BackwardAgrees workedPlain 2 6 work marks b → ⊥
   pub forward-always-refused : (work marks : List ℕ) (f : ForwardTrace) → 5 ≤ length work → 4 ≤ length marks → (f .answer .refusal ≡ 0 → ⊥)
-      → ForwardAgrees workedPlain 3 0 work marks f → ⊥
+      → ForwardAgrees workedPlain (3 ∷ []) 0 work marks f → ⊥
   -- "a trail that keeps no edge (demands 2 and 3)"; time 6 dropped
   pub no-edge : NoTables (λ c t. c .edges ≡ 0)
   pub no-edge-traced : (c : Counts) (t : Tables) (work marks : List ℕ) → c .edges ≡ 0 → 5 ≤ length work → 4 ≤ length marks

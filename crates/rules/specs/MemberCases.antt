@@ -3,19 +3,28 @@ use Prim.Native.Nat.{ℕ}
 use mathlib.Core.Path.{_≡_}
 use mathlib.Core.List.{List, [], _∷_, _++_, map}
 use lib.ListN.{replicate}
-use Rattle.rules.specs.Trail.{freshCounts}
+use Rattle.record.specs.declared.Record.{Record}
+use Rattle.rules.specs.Trail.{capacityOf, freshCounts}
 use Rattle.rules.specs.Batch.{Batched}
+use Rattle.rules.specs.PlainList.{addedBy}
 use Rattle.rules.specs.Members.{earliest}
 use Rattle.rules.specs.Forward.{ForwardTrace, forwardOf}
-use Rattle.rules.specs.Worked.{forward, ForwardIs}
+use Rattle.rules.specs.Worked.{header, room, forward, ForwardIs}
 use Rattle.rules.specs.Order.{declare, event, used, unsound, noRows}
 use Rattle.rules.specs.SoundCases.{versionsUsed}
 use Rattle.rules.specs.FileCases.{takenIn}
 use Rattle.rules.specs.TraceCases.{notEntered, forwardIn, forwardTo, forwardRefused}
 
 -- 1 reads 0 at 1 and writes 0 at 2, which makes the second version of 0; 2 is in no event
+abbrev pub writes : List ℕ
+writes = declare 0 0 ++ (declare 1 1 ++ (declare 2 0 ++ (event 1 0 1 1 ++ event 2 1 0 2)))
+
 abbrev pub writtenBack : Batched
-writtenBack = takenIn (declare 0 0 ++ (declare 1 1 ++ (declare 2 0 ++ (event 1 0 1 1 ++ event 2 1 0 2))))
+writtenBack = takenIn writes
+
+-- its records, the last first
+abbrev pub writtenPlain : List Record
+writtenPlain = addedBy (capacityOf (room 8)) [] (header ++ writes)
 
 abbrev pub writtenForward : List ℕ → ForwardTrace
 writtenForward us = forwardOf (writtenBack .counts) (writtenBack .tables) us 2 (replicate 4 9) (replicate 3 9)
