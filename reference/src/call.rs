@@ -15,7 +15,7 @@ pub enum Call {
         marks: Vec<u8>,
     },
     Forward {
-        entity: u32,
+        members: Vec<u32>,
         time: u32,
         work: Vec<u8>,
         marks: Vec<u8>,
@@ -45,11 +45,11 @@ impl Call {
                 marks,
             } => Answer::Backward(tables.backward(*entity, *time, work, marks)),
             Call::Forward {
-                entity,
+                members,
                 time,
                 work,
                 marks,
-            } => Answer::Forward(tables.forward(*entity, *time, work, marks)),
+            } => Answer::Forward(tables.forward(members, *time, work, marks)),
             Call::KeptLog { out } => Answer::KeptLog(tables.kept_log(out)),
         }
     }

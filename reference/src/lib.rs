@@ -39,6 +39,7 @@ pub mod sound;
 pub mod table_view;
 pub mod tables;
 pub mod trace;
+pub mod union;
 pub mod worked;
 
 pub use answers::{BackwardAnswer, BatchAnswer, Counts, ForwardAnswer, LogAnswer};
@@ -55,4 +56,5 @@ pub use record::{Declaration, Event, Kind, Record, Sort};
 pub use table_view::TableView;
 pub use tables::Tables;
 pub use trace::{backward, forward};
+pub use union::Forward;
 pub use worked::{worked_declarations, worked_file, worked_file_from};

@@ -95,7 +95,7 @@ impl Tables {
 
     pub fn forward(
         &self,
-        entity: u32,
+        members: &[u32],
         time: u32,
         work: &mut [u8],
         marks: &mut [u8],
@@ -105,7 +105,7 @@ impl Tables {
             &self.entities,
             &self.versions,
             &self.edges,
-            entity,
+            members,
             time,
             work,
             marks,

@@ -5,6 +5,7 @@ use crate::refusal;
 use crate::rows::NO_VERSION;
 use crate::sound::is_sound;
 use crate::table_view::TableView;
+use std::collections::BTreeSet;
 
 /// The backward trace from an entity at a time.
 #[allow(clippy::too_many_arguments)]
@@ -24,7 +25,7 @@ pub fn backward(
         versions,
         edges,
     };
-    if let Err(refusal) = check_trace(view, entity, work.len(), marks.len()) {
+    if let Err(refusal) = check_trace(view, &[entity], work.len(), marks.len()) {
         return BackwardAnswer { refusal, count: 0 };
     }
     let marked = backward_versions(view, entity, time);
@@ -34,14 +35,15 @@ pub fn backward(
     }
 }
 
-/// The forward trace from an entity at a time.
+/// The forward trace from a list of entities at a time: what any of them marks
+/// alone, and the earliest of their intakes.
 #[allow(clippy::too_many_arguments)]
 pub fn forward(
     counts: Counts,
     entities: &[u32],
     versions: &[u32],
     edges: &[u32],
-    entity: u32,
+    members: &[u32],
     time: u32,
     work: &mut [u8],
     marks: &mut [u8],
@@ -52,27 +54,28 @@ pub fn forward(
         versions,
         edges,
     };
-    if let Err(refusal) = check_trace(view, entity, work.len(), marks.len()) {
+    if let Err(refusal) = check_trace(view, members, work.len(), marks.len()) {
         return ForwardAnswer {
             refusal,
             count: 0,
             intake: 0,
         };
     }
-    let marked = forward_versions(view, entity, time);
+    let starts = start_versions(view, members, time);
+    let marked = forward_versions(view, &starts);
     ForwardAnswer {
         refusal: refusal::NONE,
         count: write_marks(view, &marked, work, marks),
-        intake: intake(view, entity, time),
+        intake: earliest_intake(view, &starts, time),
     }
 }
 
 /// Refusals 16, 5, 14.
-fn check_trace(view: TableView, entity: u32, work: usize, marks: usize) -> Result<(), u32> {
+fn check_trace(view: TableView, asked: &[u32], work: usize, marks: usize) -> Result<(), u32> {
     if !is_sound(view) {
         return Err(refusal::UNSOUND);
     }
-    if entity >= view.counts.entities {
+    if asked.iter().any(|entity| *entity >= view.counts.entities) {
         return Err(refusal::UNDECLARED);
     }
     if marks < view.counts.entities as usize || work < view.counts.versions as usize {
@@ -97,6 +100,12 @@ pub fn start_version(view: TableView, entity: u32, time: u32) -> u32 {
     let numbers = chain(view, entity).into_iter();
     let started = numbers.filter(|number| view.version(*number).start <= time);
     started.max().expect("in sound tables a chain ends at 0")
+}
+
+/// The start versions of the members.
+fn start_versions(view: TableView, members: &[u32], time: u32) -> BTreeSet<u32> {
+    let start = |entity: &u32| start_version(view, *entity, time);
+    members.iter().map(start).collect()
 }
 
 /// Marks to which every edge and every version step adds until none changes.
@@ -124,11 +133,11 @@ fn backward_versions(view: TableView, entity: u32, time: u32) -> Vec<bool> {
     }
 }
 
-/// Marks to which every edge and every version step adds until none changes.
-fn forward_versions(view: TableView, entity: u32, time: u32) -> Vec<bool> {
-    let start = start_version(view, entity, time);
-    let mut marked = vec![false; view.counts.versions as usize];
-    marked[start as usize] = true;
+/// The start versions, to which every edge and every version step adds marks
+/// until none changes.
+fn forward_versions(view: TableView, starts: &BTreeSet<u32>) -> Vec<bool> {
+    let numbers = 0..view.counts.versions;
+    let mut marked: Vec<bool> = numbers.map(|number| starts.contains(&number)).collect();
     loop {
         let before = marked.clone();
         for edge in view.edge_rows() {
@@ -147,10 +156,15 @@ fn forward_versions(view: TableView, entity: u32, time: u32) -> Vec<bool> {
     }
 }
 
+/// The earliest of the intakes, 0 if there is none.
+fn earliest_intake(view: TableView, starts: &BTreeSet<u32>, time: u32) -> u32 {
+    let intakes = starts.iter().map(|start| intake(view, *start, time));
+    intakes.min().unwrap_or(0)
+}
+
 /// The greatest time at or before `time` of an edge entering the start
 /// version, else the start of that version.
-fn intake(view: TableView, entity: u32, time: u32) -> u32 {
-    let start = start_version(view, entity, time);
+fn intake(view: TableView, start: u32, time: u32) -> u32 {
     let entering = view.edge_rows().filter(|edge| edge.to == start);
     let times = entering.map(|edge| edge.time);
     let in_by_time = times.filter(|edge_time| *edge_time <= time);

@@ -48,7 +48,7 @@ impl FullList {
         work_length: usize,
         marks: &mut [u8],
     ) -> BackwardAnswer {
-        let refusal = self.trace_refusal(entity, work_length, marks.len());
+        let refusal = self.trace_refusal(&[entity], work_length, marks.len());
         if refusal != refusal::NONE {
             return BackwardAnswer { refusal, count: 0 };
         }
@@ -57,15 +57,16 @@ impl FullList {
         BackwardAnswer { refusal, count }
     }
 
-    /// The forward trace, without the bytes of the work buffer.
+    /// The forward trace, without the bytes of the work buffer: each member
+    /// from its own latest kept intake.
     pub fn forward(
         &self,
-        entity: u32,
+        members: &[u32],
         time: u32,
         work_length: usize,
         marks: &mut [u8],
     ) -> ForwardAnswer {
-        let refusal = self.trace_refusal(entity, work_length, marks.len());
+        let refusal = self.trace_refusal(members, work_length, marks.len());
         if refusal != refusal::NONE {
             return ForwardAnswer {
                 refusal,
@@ -73,18 +74,27 @@ impl FullList {
                 intake: 0,
             };
         }
-        let entities = self.forward_entities(entity as u16, time);
-        let latest_intake = self.latest_intake(entity as u16, time);
+        let members: BTreeSet<u16> = members.iter().map(|entity| *entity as u16).collect();
+        let reached = |entity: &u16| self.forward_entities(*entity, time);
+        let entities: BTreeSet<u16> = members.iter().flat_map(reached).collect();
+        let intakes = members.iter().map(|entity| self.intake_time(*entity, time));
         ForwardAnswer {
             refusal,
             count: self.write_marks(&entities, marks),
-            intake: latest_intake.map_or(0, |event| event.time),
+            intake: intakes.min().unwrap_or(0),
         }
     }
 
+    /// The time of the latest kept intake at or before the time, else 0.
+    fn intake_time(&self, entity: u16, time: u32) -> u32 {
+        let intake = self.latest_intake(entity, time);
+        intake.map_or(0, |event| event.time)
+    }
+
     /// The first of 5 and 14 to hold, or 0.
-    fn trace_refusal(&self, entity: u32, work_length: usize, marks_length: usize) -> u32 {
-        if entity as usize >= self.sorts.len() {
+    fn trace_refusal(&self, asked: &[u32], work_length: usize, marks_length: usize) -> u32 {
+        let is_undeclared = |entity: &u32| *entity as usize >= self.sorts.len();
+        if asked.iter().any(is_undeclared) {
             return refusal::UNDECLARED;
         }
         if work_length < self.version_count() || marks_length < self.sorts.len() {

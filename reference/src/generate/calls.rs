@@ -2,11 +2,12 @@
 
 use crate::answers::Counts;
 use crate::call::Call;
-use crate::capacity::{Capacity, TableLengths, MOST_EDGES, MOST_ENTITIES, MOST_VERSIONS};
+use crate::capacity::{Capacity, TableLengths, MOST_EDGES, MOST_ENTITIES};
 use crate::full_list::FullList;
 use crate::generate::files::any_file;
 use crate::generate::lengths::{odd_lengths, roomy_lengths, tiny_lengths};
 use crate::generate::records::RecordSource;
+use crate::generate::traces::any_trace;
 use crate::random::Random;
 use crate::tables::Tables;
 
@@ -27,7 +28,7 @@ pub fn call_list(random: &mut Random, calls: usize) -> Vec<LentCall> {
         let call = if random.one_in(2) {
             batch_after(random, &mut list, lengths)
         } else {
-            trace(random, list.counts())
+            any_trace(random, list.counts())
         };
         lent_calls.push(LentCall { lengths, call });
     }
@@ -57,7 +58,7 @@ pub fn any_call(random: &mut Random, tables: &Tables) -> Call {
             out: output(random, tables.counts),
         },
         1 => batch_on(random, tables),
-        _ => trace(random, tables.counts),
+        _ => any_trace(random, tables.counts),
     }
 }
 
@@ -74,61 +75,6 @@ pub fn batch_on(random: &mut Random, tables: &Tables) -> Call {
     Call::Batch {
         file: any_file(random, &mut source, records),
     }
-}
-
-/// A backward or forward trace: mostly of a declared entity, with buffers
-/// that are mostly long enough.
-pub fn trace(random: &mut Random, counts: Counts) -> Call {
-    let entity = trace_entity(random, counts.entities);
-    let time = trace_time(random, counts.last);
-    let work = buffer(random, counts.versions as usize);
-    let marks = buffer(random, counts.entities as usize);
-    if random.one_in(2) {
-        Call::Backward {
-            entity,
-            time,
-            work,
-            marks,
-        }
-    } else {
-        Call::Forward {
-            entity,
-            time,
-            work,
-            marks,
-        }
-    }
-}
-
-fn trace_entity(random: &mut Random, entities: u32) -> u32 {
-    match random.below(16) {
-        0 => entities,
-        1 => random.number(),
-        2 => u32::MAX,
-        _ => random.below(entities.max(1) as usize) as u32,
-    }
-}
-
-fn trace_time(random: &mut Random, last: u32) -> u32 {
-    match random.below(12) {
-        0 => 0,
-        1 => last,
-        2 => last.saturating_add(1),
-        3 => u32::MAX,
-        _ => random.between(0, last),
-    }
-}
-
-/// A buffer for this many bytes or a few more; at times a byte or more short.
-/// A count above every cap gets a small buffer.
-fn buffer(random: &mut Random, count: usize) -> Vec<u8> {
-    let count = if count > MOST_VERSIONS { 40 } else { count };
-    let length = match random.below(12) {
-        0 => count.saturating_sub(1),
-        1 => random.below(count + 1),
-        _ => count + random.below(4),
-    };
-    random.bytes(length)
 }
 
 /// An output for the kept log, now and then a byte or more short. Counts above

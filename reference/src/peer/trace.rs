@@ -1,4 +1,4 @@
-//! The peer's traces: a search from the start version along the lists.
+//! The peer's traces: a search from the start versions along the lists.
 
 use super::{Trail, NO_EDGE};
 use crate::answers::{BackwardAnswer, ForwardAnswer};
@@ -29,14 +29,17 @@ impl<'a> Search<'a> {
         }
     }
 
+    /// Marks the version; true if it was not marked before.
     #[inline]
-    fn mark(&mut self, number: u32) {
+    fn mark(&mut self, number: u32) -> bool {
         let mark = &mut self.work[number as usize];
-        if *mark == 0 {
+        let is_new = *mark == 0;
+        if is_new {
             *mark = 1;
             self.mark_entity(number);
             self.open.push(number);
         }
+        is_new
     }
 
     #[inline]
@@ -88,7 +91,7 @@ impl Trail {
         work: &mut [u8],
         marks: &mut [u8],
     ) -> BackwardAnswer {
-        if let Err(refusal) = self.check_trace(entity, work.len(), marks.len()) {
+        if let Err(refusal) = self.check_trace(&[entity], work.len(), marks.len()) {
             return BackwardAnswer { refusal, count: 0 };
         }
         let start = self.start_version(entity, time);
@@ -104,36 +107,43 @@ impl Trail {
         }
     }
 
+    /// Marks the start versions of all members, each with its intake where it
+    /// is new, and searches from all of them at once.
     pub fn forward(
         &self,
-        entity: u32,
+        members: &[u32],
         time: u32,
         work: &mut [u8],
         marks: &mut [u8],
     ) -> ForwardAnswer {
-        if let Err(refusal) = self.check_trace(entity, work.len(), marks.len()) {
+        if let Err(refusal) = self.check_trace(members, work.len(), marks.len()) {
             return ForwardAnswer {
                 refusal,
                 count: 0,
                 intake: 0,
             };
         }
-        let start = self.start_version(entity, time);
         let mut search = Search::new(self, work, marks);
-        search.mark(start);
+        let starts = members
+            .iter()
+            .map(|entity| self.start_version(*entity, time));
+        let new_starts = starts.filter(|start| search.mark(*start));
+        let intakes = new_starts.map(|start| self.intake(start, time));
+        let intake = intakes.min().unwrap_or(0);
         while let Some(number) = search.open.pop() {
             search.go_on(number);
         }
         ForwardAnswer {
             refusal: refusal::NONE,
             count: search.count,
-            intake: self.intake(start, time),
+            intake,
         }
     }
 
     /// Refusals 5 and 14.
-    fn check_trace(&self, entity: u32, work: usize, marks: usize) -> Result<(), u32> {
-        if entity as usize >= self.entities.len() {
+    fn check_trace(&self, asked: &[u32], work: usize, marks: usize) -> Result<(), u32> {
+        let is_undeclared = |entity: &u32| *entity as usize >= self.entities.len();
+        if asked.iter().any(is_undeclared) {
             return Err(refusal::UNDECLARED);
         }
         if marks < self.entities.len() || work < self.versions.len() {

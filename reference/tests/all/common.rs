@@ -1,7 +1,8 @@
 //! What several tests use.
 
 use reference::sound::{broken_clauses, Clause};
-use reference::{worked_file, BackwardAnswer, Event, ForwardAnswer, TableLengths, Tables};
+use reference::{worked_file, BackwardAnswer, Capacity, Event, Forward, FullList};
+use reference::{TableLengths, Tables};
 use std::collections::BTreeSet;
 
 /// A fresh trail with this many rows in each table.
@@ -12,6 +13,14 @@ pub fn fresh(rows: usize) -> Tables {
 /// The tables of the worked trail.
 pub fn worked_tables() -> Tables {
     grown(&worked_file())
+}
+
+/// The full list of the worked trail.
+pub fn worked_list() -> FullList {
+    let mut list = FullList::new();
+    let capacity = Capacity::of(TableLengths::of_rows(10, 10, 10));
+    assert_eq!(list.batch(capacity, &worked_file()).refusal, 0);
+    list
 }
 
 /// The clauses broken by a change of the worked tables.
@@ -36,12 +45,15 @@ pub fn backward(tables: &Tables, entity: u32, time: u32) -> (BackwardAnswer, Vec
     (answer, work, marks)
 }
 
-/// A forward trace with buffers of the right lengths: the answer, the work
-/// buffer and the mark buffer.
-pub fn forward(tables: &Tables, entity: u32, time: u32) -> (ForwardAnswer, Vec<u8>, Vec<u8>) {
+/// A forward trace with buffers of the right lengths.
+pub fn forward(tables: &Tables, members: &[u32], time: u32) -> Forward {
     let (mut work, mut marks) = buffers(tables);
-    let answer = tables.forward(entity, time, &mut work, &mut marks);
-    (answer, work, marks)
+    let answer = tables.forward(members, time, &mut work, &mut marks);
+    Forward {
+        answer,
+        work,
+        marks,
+    }
 }
 
 fn buffers(tables: &Tables) -> (Vec<u8>, Vec<u8>) {

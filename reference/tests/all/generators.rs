@@ -2,12 +2,14 @@
 
 use crate::common::{backward, forward, fresh};
 use reference::generate::{
-    any_lengths, call_list, cut_file, damaged_file, event_file, grown_tables, large_tables,
-    lend_anew, long_file, odd_lengths, refused_batch, sound_tables, sound_tables_of_shape,
-    tables_of_late_first_forks, tiny_lengths, unsound_tables, BatchFault, RecordSource, Shape,
+    any_lengths, any_members, call_list, cut_file, damaged_file, event_file, grown_tables,
+    large_tables, lend_anew, long_file, odd_lengths, refused_batch, sound_tables,
+    sound_tables_of_shape, tables_of_late_first_forks, tiny_lengths, unsound_tables, BatchFault,
+    RecordSource, Shape,
 };
 use reference::sound::{is_sound, Clause};
 use reference::{Capacity, Counts, Kind, Random, Tables};
+use std::collections::BTreeSet;
 
 #[test]
 fn the_same_seed_gives_the_same() {
@@ -133,7 +135,7 @@ fn late_first_forks_join_all_subjects() {
     for count in [1, 2, 9] {
         let tables = tables_of_late_first_forks(count);
         assert!(is_sound(tables.view()));
-        assert_eq!(forward(&tables, 0, 0).0.count, count);
+        assert_eq!(forward(&tables, &[0], 0).answer.count, count);
         assert_eq!(backward(&tables, count - 1, u32::MAX).0.count, count);
     }
 }
@@ -145,6 +147,36 @@ fn long_files_are_taken_in_whole() {
     let answer = tables.batch(&long_file(&mut random, 20, &Kind::ALL, 400));
     assert_eq!((answer.refusal, answer.taken), (0, 420));
     assert_eq!((tables.counts.entities, tables.counts.accepted), (20, 400));
+}
+
+#[test]
+fn lists_of_members_are_of_all_sorts() {
+    let mut random = Random::new(47);
+    let mut seen = [0; 9];
+    for _ in 0..2_000 {
+        let members = any_members(&mut random, 5);
+        let distinct: BTreeSet<u32> = members.iter().copied().collect();
+        let is_declared = |member: &u32| *member < 5;
+        let undeclared: Vec<usize> = (0..members.len())
+            .filter(|place| !is_declared(&members[*place]))
+            .collect();
+        let in_middle = |place: &usize| 0 < *place && place + 1 < members.len();
+        let holds = [
+            members.is_empty(),
+            members.len() == 1 && undeclared.is_empty(),
+            distinct.len() < members.len(),
+            members.len() > 5,
+            distinct.len() == 5 && members.len() == 5 && undeclared.is_empty(),
+            members.len() > 1 && undeclared == [0],
+            members.len() > 1 && undeclared == [members.len() - 1],
+            undeclared.iter().any(in_middle),
+            distinct.contains(&5) || distinct.contains(&u32::MAX),
+        ];
+        for (count, holds) in seen.iter_mut().zip(holds) {
+            *count += u32::from(holds);
+        }
+    }
+    assert!(seen.iter().all(|count| *count > 30), "{seen:?}");
 }
 
 #[test]

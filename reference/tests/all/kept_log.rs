@@ -1,7 +1,7 @@
 //! The kept log taken in again.
 
 use crate::common::{backward, forward, fresh, log_of, times};
-use reference::generate::{grown_tables, sound_tables};
+use reference::generate::{any_members, grown_tables, sound_tables};
 use reference::rows::{EdgeRow, EntityRow, VersionRow};
 use reference::{Kind, Random, Sort, Tables};
 
@@ -68,12 +68,33 @@ fn same_traces() {
                 let (answer, _, marks) = backward(&tables, entity, time);
                 let (answer_again, _, marks_again) = backward(&again, entity, time);
                 assert_eq!((answer_again, marks_again), (answer, marks));
-                let (answer, _, marks) = forward(&tables, entity, time);
-                let (answer_again, _, marks_again) = forward(&again, entity, time);
-                assert_eq!((answer_again, marks_again), (answer, marks));
+                assert_same_forward(&tables, &again, &[entity], time);
             }
         }
     }
+}
+
+#[test]
+fn same_traces_of_lists() {
+    let mut random = Random::new(14);
+    for _ in 0..60 {
+        let tables = grown_tables(&mut random, 40);
+        let again = taken_in_again(&tables);
+        for time in times(tables.counts.last) {
+            let members = any_members(&mut random, tables.counts.entities);
+            assert_same_forward(&tables, &again, &members, time);
+        }
+    }
+}
+
+/// The same but for the work buffer: version numbers may differ.
+fn assert_same_forward(tables: &Tables, again: &Tables, members: &[u32], time: u32) {
+    let (of_tables, of_again) = (
+        forward(tables, members, time),
+        forward(again, members, time),
+    );
+    assert_eq!(of_again.answer, of_tables.answer);
+    assert_eq!(of_again.marks, of_tables.marks);
 }
 
 #[test]

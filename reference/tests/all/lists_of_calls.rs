@@ -4,9 +4,12 @@ use crate::common::{backward, forward, times_around};
 use reference::causal::reached_from;
 use reference::file::events_among;
 use reference::full_list::StandsFor;
-use reference::generate::{call_list, lend_anew, LentCall};
+use reference::generate::{
+    all_members, any_members, call_list, declared_members, lend_anew, LentCall,
+};
 use reference::sound::is_sound;
 use reference::{Answer, Call, Capacity, Counts, FullList, Random, TableLengths, Tables};
+use std::collections::BTreeSet;
 
 const LISTS: u64 = 30;
 
@@ -79,14 +82,21 @@ fn assert_all_traces_agree(both: &Both) {
                 .backward(entity, time, versions as usize, &mut marks);
             let (of_tables, _, of_tables_marks) = backward(&both.tables, entity, time);
             assert_eq!((of_tables, of_tables_marks), (answer, marks));
-            let mut marks = vec![7; entities as usize];
-            let answer = both
-                .list
-                .forward(entity, time, versions as usize, &mut marks);
-            let (of_tables, _, of_tables_marks) = forward(&both.tables, entity, time);
-            assert_eq!((of_tables, of_tables_marks), (answer, marks));
+            assert_forward_agrees(both, &[entity], time);
         }
     }
+}
+
+fn assert_forward_agrees(both: &Both, members: &[u32], time: u32) {
+    let Counts {
+        entities, versions, ..
+    } = both.tables.counts;
+    let mut marks = vec![7; entities as usize];
+    let answer = both
+        .list
+        .forward(members, time, versions as usize, &mut marks);
+    let of_tables = forward(&both.tables, members, time);
+    assert_eq!((of_tables.answer, of_tables.marks), (answer, marks));
 }
 
 #[test]
@@ -104,6 +114,22 @@ fn answers_and_counts_agree_after_every_call() {
 fn all_traces_agree() {
     for seed in 0..LISTS {
         assert_all_traces_agree(&after_list(seed));
+    }
+}
+
+#[test]
+fn traces_of_lists_of_members_agree() {
+    for seed in 0..2 * LISTS {
+        let both = after_list(seed);
+        let entities = both.tables.counts.entities;
+        let mut random = Random::new(seed);
+        for time in times_around(&both.list.events()) {
+            assert_forward_agrees(&both, &[], time);
+            assert_forward_agrees(&both, &all_members(&mut random, entities), time);
+            for _ in 0..6 {
+                assert_forward_agrees(&both, &any_members(&mut random, entities), time);
+            }
+        }
     }
 }
 
@@ -167,17 +193,39 @@ fn an_event_that_gives_an_ancestor_is_kept() {
     assert!(gains > 100, "{gains}");
 }
 
+/// The entities that the full log reaches from this one at this time.
+fn full_answer(list: &FullList, entity: u16, time: u32) -> BTreeSet<u16> {
+    let mut later = list.events();
+    later.retain(|event| event.time >= time);
+    reached_from(entity, &later)
+}
+
 #[test]
 fn forward_never_holds_less_than_the_full_log_at_that_time() {
     for seed in 0..LISTS {
         let list = after_list(seed).list;
         for entity in 0..list.sorts.len() as u16 {
             for time in times_around(&list.events()) {
-                let mut later = list.events();
-                later.retain(|event| event.time >= time);
-                let full = reached_from(entity, &later);
+                let full = full_answer(&list, entity, time);
                 assert!(full.is_subset(&list.forward_entities(entity, time)));
             }
+        }
+    }
+}
+
+#[test]
+fn a_list_never_holds_less_than_the_full_log_for_its_members() {
+    for seed in 0..LISTS {
+        let both = after_list(seed);
+        let mut random = Random::new(seed);
+        for time in times_around(&both.list.events()) {
+            let entities = both.tables.counts.entities;
+            let length = random.below(4).min(entities as usize);
+            let members = declared_members(&mut random, entities, length);
+            let marks = forward(&both.tables, &members, time).marks;
+            let full = |member: &u32| full_answer(&both.list, *member as u16, time);
+            let mut all = members.iter().flat_map(full);
+            assert!(all.all(|entity| marks[usize::from(entity)] == 1));
         }
     }
 }

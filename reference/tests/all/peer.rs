@@ -19,11 +19,11 @@ fn run_on_peer(peer: &mut Trail, capacity: Capacity, call: &mut Call) -> Answer 
             marks,
         } => Answer::Backward(peer.backward(*entity, *time, work, marks)),
         Call::Forward {
-            entity,
+            members,
             time,
             work,
             marks,
-        } => Answer::Forward(peer.forward(*entity, *time, work, marks)),
+        } => Answer::Forward(peer.forward(members, *time, work, marks)),
         Call::KeptLog { out } => Answer::KeptLog(peer.kept_log(out)),
     }
 }

@@ -107,7 +107,7 @@ fn unsound_tables_come_before_all_else() {
         let mut tables = unsound_tables(&mut random, clause);
         assert_eq!(tables.batch(&[]).refusal, 16);
         assert_eq!(tables.backward(u32::MAX, 0, &mut [], &mut []).refusal, 16);
-        assert_eq!(tables.forward(u32::MAX, 0, &mut [], &mut []).refusal, 16);
+        assert_eq!(tables.forward(&[u32::MAX], 0, &mut [], &mut []).refusal, 16);
         assert_eq!(tables.kept_log(&mut []).refusal, 16);
     }
 }
@@ -117,7 +117,7 @@ fn undeclared_comes_before_short_buffers() {
     let tables = worked_tables();
     for entity in [4, 65_536, u32::MAX] {
         assert_eq!(tables.backward(entity, 0, &mut [], &mut []).refusal, 5);
-        assert_eq!(tables.forward(entity, 0, &mut [], &mut []).refusal, 5);
+        assert_eq!(tables.forward(&[entity], 0, &mut [], &mut []).refusal, 5);
     }
 }
 
@@ -128,7 +128,7 @@ fn either_buffer_too_short() {
         let (mut work, mut marks) = (vec![7; work], vec![7; marks]);
         let answer = tables.backward(2, 6, &mut work, &mut marks);
         assert_eq!(answer.refusal, refusal);
-        let answer = tables.forward(2, 6, &mut work, &mut marks);
+        let answer = tables.forward(&[2], 6, &mut work, &mut marks);
         assert_eq!(answer.refusal, refusal);
     }
 }

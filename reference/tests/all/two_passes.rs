@@ -17,10 +17,12 @@ struct Passes<'a> {
 }
 
 impl Passes<'_> {
-    /// With the start version marked.
-    fn new(view: TableView, start: u32) -> Passes {
+    /// With the start versions of these entities marked.
+    fn new<'a>(view: TableView<'a>, entities: &[u32], time: u32) -> Passes<'a> {
         let mut marked = vec![0; view.counts.versions as usize];
-        marked[start as usize] = 1;
+        for entity in entities {
+            marked[start_version(view, *entity, time) as usize] = 1;
+        }
         Passes { view, marked }
     }
 
@@ -89,16 +91,15 @@ impl Passes<'_> {
 /// The passes of a backward trace and its work buffer.
 fn backward_passes(tables: &Tables, entity: u32, time: u32) -> (u32, Vec<u8>) {
     let start = start_version(tables.view(), entity, time);
-    let mut passes = Passes::new(tables.view(), start);
+    let mut passes = Passes::new(tables.view(), &[entity], time);
     let is_followed = |edge: EdgeRow| edge.to != start || edge.time <= time;
     let count = passes.repeat(|passes| passes.backward_pass(is_followed));
     (count, passes.marked)
 }
 
 /// The passes of a forward trace and its work buffer.
-fn forward_passes(tables: &Tables, entity: u32, time: u32) -> (u32, Vec<u8>) {
-    let start = start_version(tables.view(), entity, time);
-    let mut passes = Passes::new(tables.view(), start);
+fn forward_passes(tables: &Tables, members: &[u32], time: u32) -> (u32, Vec<u8>) {
+    let mut passes = Passes::new(tables.view(), members, time);
     let count = passes.repeat(Passes::forward_pass);
     (count, passes.marked)
 }
@@ -111,17 +112,22 @@ fn times(tables: &Tables) -> BTreeSet<u32> {
     starts.chain(edges).chain([0]).collect()
 }
 
-/// The most passes of a trace of any entity at any time. The marks must be
-/// those of the reference.
+/// The most passes of a trace of any entity at any time, and forward of each
+/// two neighbours and of all at once. The marks must be those of the reference.
 fn most_passes(tables: &Tables) -> u32 {
     let mut most = 0;
-    for entity in 0..tables.counts.entities {
-        for time in times(tables) {
-            let (passes, work) = backward_passes(tables, entity, time);
-            assert_eq!(backward(tables, entity, time).1, work);
+    let entities: Vec<u32> = (0..tables.counts.entities).collect();
+    let lists = entities.chunks(1).chain(entities.windows(2));
+    let lists: Vec<&[u32]> = lists.chain([entities.as_slice()]).collect();
+    for time in times(tables) {
+        for entity in &entities {
+            let (passes, work) = backward_passes(tables, *entity, time);
+            assert_eq!(backward(tables, *entity, time).1, work);
             most = most.max(passes);
-            let (passes, work) = forward_passes(tables, entity, time);
-            assert_eq!(forward(tables, entity, time).1, work);
+        }
+        for members in &lists {
+            let (passes, work) = forward_passes(tables, members, time);
+            assert_eq!(forward(tables, members, time).work, work);
             most = most.max(passes);
         }
     }
@@ -161,7 +167,7 @@ fn tables_grown_by_a_long_file() {
     for entity in 0..tables.counts.entities {
         for time in [0, 1, last / 3, last / 2, last - 1, last] {
             most = most.max(backward_passes(&tables, entity, time).0);
-            most = most.max(forward_passes(&tables, entity, time).0);
+            most = most.max(forward_passes(&tables, &[entity], time).0);
         }
     }
     assert_eq!(most, 2);
@@ -179,5 +185,5 @@ fn tables_nobody_grew_may_take_more() {
 fn at_worst_there_are_as_many_passes_as_versions() {
     let tables = tables_of_late_first_forks(50);
     assert_eq!(backward_passes(&tables, 49, 100).0, 50);
-    assert_eq!(forward_passes(&tables, 0, 0).0, 50);
+    assert_eq!(forward_passes(&tables, &[0], 0).0, 50);
 }

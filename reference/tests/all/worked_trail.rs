@@ -1,11 +1,11 @@
 //! The cases of the worked trail, over tables and over the full list.
 
-use crate::common::{backward, forward, fresh, log_of, worked_tables};
+use crate::common::{backward, forward, fresh, log_of, worked_list, worked_tables};
 use reference::full_list::StandsFor;
 use reference::rows::NO_VERSION;
 use reference::{
-    worked_declarations, worked_file, BackwardAnswer, BatchAnswer, Capacity, Counts, FileBuilder,
-    ForwardAnswer, FullList, LogAnswer, TableLengths, Tables,
+    worked_declarations, worked_file, BackwardAnswer, BatchAnswer, Counts, FileBuilder,
+    ForwardAnswer, LogAnswer, TableLengths, Tables,
 };
 
 const COUNTS: Counts = Counts {
@@ -33,13 +33,6 @@ const EDGES: [[u32; 6]; 4] = [
     [4, 2, 2, 6, 1, 6],
 ];
 
-fn worked_list() -> FullList {
-    let mut list = FullList::new();
-    let capacity = Capacity::of(TableLengths::of_rows(10, 10, 10));
-    assert_eq!(list.batch(capacity, &worked_file()).refusal, 0);
-    list
-}
-
 fn assert_backward(entity: u32, time: u32, expected: [u8; 4]) {
     let count = expected.iter().map(|mark| u32::from(*mark)).sum();
     let answer = BackwardAnswer { refusal: 0, count };
@@ -50,17 +43,18 @@ fn assert_backward(entity: u32, time: u32, expected: [u8; 4]) {
     assert_eq!((of_list, marks), (answer, expected));
 }
 
-fn assert_forward(entity: u32, time: u32, expected: [u8; 4], intake: u32) {
+fn assert_forward(members: &[u32], time: u32, expected: [u8; 4], intake: u32) {
     let count = expected.iter().map(|mark| u32::from(*mark)).sum();
     let answer = ForwardAnswer {
         refusal: 0,
         count,
         intake,
     };
-    let (of_tables, _, marks) = forward(&worked_tables(), entity, time);
-    assert_eq!((of_tables, marks.as_slice()), (answer, &expected[..]));
+    let of_tables = forward(&worked_tables(), members, time);
+    assert_eq!(of_tables.answer, answer);
+    assert_eq!(of_tables.marks, expected);
     let mut marks = [7; 4];
-    let of_list = worked_list().forward(entity, time, 5, &mut marks);
+    let of_list = worked_list().forward(members, time, 5, &mut marks);
     assert_eq!((of_list, marks), (answer, expected));
 }
 
@@ -104,22 +98,22 @@ fn p4_backward_2_at_6() {
 
 #[test]
 fn p5_forward_3_at_0() {
-    assert_forward(3, 0, [0, 1, 1, 1], 0);
+    assert_forward(&[3], 0, [0, 1, 1, 1], 0);
 }
 
 #[test]
 fn p6_forward_1_at_4() {
-    assert_forward(1, 4, [0, 1, 1, 0], 1);
+    assert_forward(&[1], 4, [0, 1, 1, 0], 1);
 }
 
 #[test]
 fn p7_forward_1_at_5() {
-    assert_forward(1, 5, [0, 1, 1, 0], 5);
+    assert_forward(&[1], 5, [0, 1, 1, 0], 5);
 }
 
 #[test]
 fn p8_forward_0_at_4() {
-    assert_forward(0, 4, [1, 1, 1, 0], 0);
+    assert_forward(&[0], 4, [1, 1, 1, 0], 0);
 }
 
 #[test]
