@@ -10,6 +10,7 @@ mod generators;
 mod kept_log;
 mod listing;
 mod lists_of_calls;
+mod lists_of_members;
 mod long_batch;
 mod peer;
 mod records;
