@@ -35,19 +35,13 @@ impl Archive {
                 time,
                 work,
                 marks,
-            } => {
-                let answer = lent.trace(interface::slt_backward, *entity, *time, work, marks);
-                answer.map(Answer::Backward)
-            }
+            } => lent.backward(*entity, *time, work, marks),
             Call::Forward {
-                entity,
+                members,
                 time,
                 work,
                 marks,
-            } => {
-                let answer = lent.trace(interface::slt_forward, *entity, *time, work, marks);
-                answer.map(Answer::Forward)
-            }
+            } => lent.forward(members, *time, work, marks),
             Call::KeptLog { out } => lent.kept_log(out),
         };
         lent.give_back(tables)?;
@@ -111,20 +105,19 @@ impl LentTables {
         Ok(Answer::Batch(answer))
     }
 
-    fn trace<A>(
+    fn backward(
         &mut self,
-        function: interface::Trace<A>,
         entity: u32,
         time: u32,
         work: &mut [u8],
         marks: &mut [u8],
-    ) -> Result<A, Overrun> {
+    ) -> Result<Answer, Overrun> {
         let mut lent_work = Guarded::new(work, self.salt);
         let mut lent_marks = Guarded::new(marks, self.salt);
         // Sound: each pointer and length belong to a live allocation of their
         // own.
         let answer = unsafe {
-            function(
+            interface::slt_backward(
                 self.counts(),
                 self.entities.pointer(),
                 self.entities.length(),
@@ -142,7 +135,43 @@ impl LentTables {
         };
         lent_work.give_back("work", work)?;
         lent_marks.give_back("marks", marks)?;
-        Ok(answer)
+        Ok(Answer::Backward(answer))
+    }
+
+    fn forward(
+        &mut self,
+        members: &mut [u32],
+        time: u32,
+        work: &mut [u8],
+        marks: &mut [u8],
+    ) -> Result<Answer, Overrun> {
+        let mut lent_members = Guarded::new(members, self.salt);
+        let mut lent_work = Guarded::new(work, self.salt);
+        let mut lent_marks = Guarded::new(marks, self.salt);
+        // Sound: each pointer and length belong to a live allocation of their
+        // own.
+        let answer = unsafe {
+            interface::slt_forward(
+                self.counts(),
+                self.entities.pointer(),
+                self.entities.length(),
+                self.versions.pointer(),
+                self.versions.length(),
+                self.edges.pointer(),
+                self.edges.length(),
+                lent_members.pointer(),
+                lent_members.length(),
+                time,
+                lent_work.pointer(),
+                lent_work.length(),
+                lent_marks.pointer(),
+                lent_marks.length(),
+            )
+        };
+        lent_members.give_back("members", members)?;
+        lent_work.give_back("work", work)?;
+        lent_marks.give_back("marks", marks)?;
+        Ok(Answer::Forward(answer))
     }
 
     fn kept_log(&mut self, out: &mut [u8]) -> Result<Answer, Overrun> {

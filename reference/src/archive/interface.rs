@@ -29,23 +29,6 @@ pub fn counts_of(numbers: [u32; COUNTS_NUMBERS]) -> Counts {
     }
 }
 
-/// A backward or forward trace, with the answer it gives.
-pub type Trace<A> = unsafe extern "C" fn(
-    counts: Counts,
-    entities: *const u32,
-    entities_length: usize,
-    versions: *const u32,
-    versions_length: usize,
-    edges: *const u32,
-    edges_length: usize,
-    entity: u32,
-    time: u32,
-    work: *mut u8,
-    work_length: usize,
-    marks: *mut u8,
-    marks_length: usize,
-) -> A;
-
 extern "C" {
     pub fn slt_batch(
         counts: *mut Counts,
@@ -83,7 +66,8 @@ extern "C" {
         versions_length: usize,
         edges: *const u32,
         edges_length: usize,
-        entity: u32,
+        members: *const u32,
+        members_length: usize,
         time: u32,
         work: *mut u8,
         work_length: usize,

@@ -2,7 +2,9 @@
 //! make.
 
 use crate::comparison::{Compared, Comparison};
-use reference::generate::calls::{batch_on, trace};
+use crate::made::Made;
+use reference::generate::calls::batch_on;
+use reference::generate::{any_backward, any_forward, any_members};
 use reference::{Call, Counts, Random, Tables};
 use std::collections::BTreeSet;
 
@@ -11,6 +13,9 @@ const FILL: u8 = 0xA7;
 
 /// Counts of unsound tables may be far above this.
 const MOST_BYTES: usize = 70_000;
+
+/// Lists traced at each time.
+const LISTS_A_TIME: usize = 2;
 
 /// The lengths of the work buffer and of the mark buffer.
 #[derive(Clone, Copy)]
@@ -29,22 +34,29 @@ impl BufferLengths {
     }
 }
 
-/// The backward and the forward trace.
+pub fn backward(entity: u32, time: u32, lengths: BufferLengths) -> Call {
+    Call::Backward {
+        entity,
+        time,
+        work: vec![FILL; lengths.work],
+        marks: vec![FILL; lengths.marks],
+    }
+}
+
+pub fn forward(members: &[u32], time: u32, lengths: BufferLengths) -> Call {
+    Call::Forward {
+        members: members.to_vec(),
+        time,
+        work: vec![FILL; lengths.work],
+        marks: vec![FILL; lengths.marks],
+    }
+}
+
+/// The backward and the forward trace of one entity.
 pub fn traces(entity: u32, time: u32, lengths: BufferLengths) -> [Call; 2] {
-    let (work, marks) = (vec![FILL; lengths.work], vec![FILL; lengths.marks]);
     [
-        Call::Backward {
-            entity,
-            time,
-            work: work.clone(),
-            marks: marks.clone(),
-        },
-        Call::Forward {
-            entity,
-            time,
-            work,
-            marks,
-        },
+        backward(entity, time, lengths),
+        forward(&[entity], time, lengths),
     ]
 }
 
@@ -60,33 +72,21 @@ pub fn log_length(counts: Counts) -> usize {
     8 + 12 * (counts.entities as usize + counts.edges as usize)
 }
 
-/// The trace that goes the other way.
-fn turned(call: Call) -> Call {
-    match call {
-        Call::Backward {
-            entity,
-            time,
-            work,
-            marks,
-        } => Call::Forward {
-            entity,
-            time,
-            work,
-            marks,
-        },
-        Call::Forward {
-            entity,
-            time,
-            work,
-            marks,
-        } => Call::Backward {
-            entity,
-            time,
-            work,
-            marks,
-        },
-        other => other,
+/// Every two entities, the lower first or last, and all at once.
+pub fn small_lists(entities: u32) -> Vec<Vec<u32>> {
+    let mut lists = Vec::new();
+    for second in 0..entities {
+        for first in 0..second {
+            lists.push(match first % 2 {
+                0 => vec![first, second],
+                _ => vec![second, first],
+            });
+        }
     }
+    if entities > 2 {
+        lists.push((0..entities).collect());
+    }
+    lists
 }
 
 /// The times at which a trace may change, those just before and after, the
@@ -110,12 +110,24 @@ impl Comparison {
         Ok(())
     }
 
-    /// Both traces of each entity at each time at which they may change.
-    pub fn all_traces(&mut self, tables: &Tables) -> Compared {
-        let times = times_of(tables);
-        for entity in 0..tables.counts.entities {
-            for time in &times {
-                self.traces(tables, entity, *time)?;
+    /// The forward trace, with buffers of exactly the right lengths.
+    pub fn forward(&mut self, tables: &Tables, members: &[u32], time: u32) -> Compared<Made> {
+        self.call(
+            tables,
+            forward(members, time, BufferLengths::of(tables.counts)),
+        )
+    }
+
+    /// At each time at which they may change, both traces of each entity and
+    /// the forward traces of some lists.
+    pub fn all_traces(&mut self, random: &mut Random, tables: &Tables) -> Compared {
+        let entities = tables.counts.entities;
+        for time in times_of(tables) {
+            for entity in 0..entities {
+                self.traces(tables, entity, time)?;
+            }
+            for _ in 0..LISTS_A_TIME {
+                self.forward(tables, &any_members(random, entities), time)?;
             }
         }
         Ok(())
@@ -134,9 +146,8 @@ impl Comparison {
     /// refused, and so may the others.
     pub fn each_call(&mut self, random: &mut Random, tables: &Tables) -> Compared {
         self.call(tables, batch_on(random, tables))?;
-        let trace = trace(random, tables.counts);
-        self.call(tables, turned(trace.clone()))?;
-        self.call(tables, trace)?;
+        self.call(tables, any_backward(random, tables.counts))?;
+        self.call(tables, any_forward(random, tables.counts))?;
         let log = log_length(tables.counts).min(MOST_BYTES);
         let length = random.below(4) + log - 1;
         self.call(tables, kept_log(length))?;

@@ -5,8 +5,8 @@ use reference::capacity::{
     EDGE_ROW, ENTITY_ROW, MOST_ACCEPTED, MOST_EDGES, MOST_ENTITIES, MOST_VERSIONS, VERSION_ROW,
 };
 use reference::generate::{
-    count_all, large_tables, lend_anew, long_file_event, raise_accepted, set_count,
-    tables_with_edges, tables_with_entities, tables_with_versions,
+    all_members, count_all, declared_members, large_tables, lend_anew, long_file_event,
+    raise_accepted, set_count, tables_with_edges, tables_with_entities, tables_with_versions,
 };
 use reference::{FileBuilder, Kind, Random, TableLengths, Tables};
 
@@ -14,8 +14,10 @@ use reference::{FileBuilder, Kind, Random, TableLengths, Tables};
 const MISSING: u32 = 40;
 /// As the count of all 262,144 edges it makes a sum of 2^32 and 262,144.
 const COUNT_PAST_32_BITS: u32 = 16_385;
-/// Traces on tables with all rows in use.
+/// Places traced on tables with all rows in use.
 const FULL_TRACES: usize = 5;
+/// The members of a list on tables with all rows in use.
+const MEMBERS: usize = 30;
 
 /// One table at a time, one row below its cap, at it and above it.
 pub fn each_cap(comparison: &mut Comparison, random: &mut Random) -> Compared {
@@ -49,11 +51,16 @@ fn at_cap(
 ) -> Compared {
     comparison.batch(&mut tables.clone(), file.to_vec())?;
     let (entities, last) = (tables.counts.entities, tables.counts.last);
-    for entity in [0, 1, entities - 1, entities] {
-        for time in [0, last / 2, last] {
+    for time in [0, last / 2, last] {
+        for entity in [0, 1, entities - 1, entities] {
             comparison.traces(tables, entity, time)?;
         }
+        comparison.forward(tables, &[entities - 1, 0, entities - 1], time)?;
     }
+    let all = all_members(random, entities);
+    comparison.forward(tables, &[], last)?;
+    comparison.forward(tables, &all, last)?;
+    comparison.forward(tables, &[all.as_slice(), &[entities]].concat(), last)?;
     comparison.kept_logs(tables)?;
     comparison.each_call(random, tables)
 }
@@ -86,6 +93,8 @@ pub fn all_full(comparison: &mut Comparison, random: &mut Random) -> Compared {
         let entity = random.below(MOST_ENTITIES) as u32;
         let time = random.between(0, tables.counts.last);
         comparison.traces(&tables, entity, time)?;
+        let members = declared_members(random, tables.counts.entities, MEMBERS);
+        comparison.forward(&tables, &members, time)?;
     }
     comparison.kept_logs(&tables)?;
     let declaration = FileBuilder::new().object(4_096).bytes();

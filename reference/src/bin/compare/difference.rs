@@ -67,13 +67,16 @@ fn call_text(call: &Call) -> String {
             time,
             work,
             marks,
-        } => trace_text("backward", *entity, *time, work, marks),
+        } => trace_text("backward", &entity.to_string(), *time, work, marks),
         Call::Forward {
-            entity,
+            members,
             time,
             work,
             marks,
-        } => trace_text("forward", *entity, *time, work, marks),
+        } => {
+            let asked = format!("members {}", numbers_text(members));
+            trace_text("forward", &asked, *time, work, marks)
+        }
         Call::KeptLog { out } => format!("kept log into {} bytes", out.len()),
     }
 }
@@ -86,7 +89,7 @@ fn file_text(file: &[u8]) -> String {
     bytes.join(" ")
 }
 
-fn trace_text(name: &str, entity: u32, time: u32, work: &[u8], marks: &[u8]) -> String {
+fn trace_text(name: &str, asked: &str, time: u32, work: &[u8], marks: &[u8]) -> String {
     let (work, marks) = (work.len(), marks.len());
-    format!("{name} from {entity} at {time}, work of {work} bytes, marks of {marks}")
+    format!("{name} from {asked} at {time}, work of {work} bytes, marks of {marks}")
 }

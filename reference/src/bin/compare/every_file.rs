@@ -46,6 +46,7 @@ fn is_taken_in(
     let is_whole = (counts.entities + counts.accepted) as usize == records;
     if is_whole {
         trail.all_traces(comparison)?;
+        trail.small_lists(comparison)?;
         taken_in_again(comparison, &trail.tables, trail.tables.view().lengths())?;
     }
     Ok(is_whole)
@@ -140,6 +141,7 @@ fn compare_events(
         }
     }
     trail.all_traces(comparison)?;
+    trail.small_lists(comparison)?;
     taken_in_again(comparison, &trail.tables, trail.tables.view().lengths())
 }
 

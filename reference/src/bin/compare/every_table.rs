@@ -1,6 +1,7 @@
 //! Every sound table of two entities, three versions and up to three edges
 //! with few values, counts of 1 and 2 among them, grown or not.
 
+use crate::calls::small_lists;
 use crate::comparison::{Compared, Comparison};
 use reference::capacity::{EDGE_ROW, ENTITY_ROW, VERSION_ROW};
 use reference::generate::calls::batch_on;
@@ -41,9 +42,13 @@ pub fn every_table(comparison: &mut Comparison, random: &mut Random) -> Compared
 }
 
 fn compare_traces(comparison: &mut Comparison, tables: &Tables) -> Compared {
-    for entity in 0..2 {
-        for time in 0..=LAST {
+    comparison.forward(tables, &[], LAST)?;
+    for time in 0..=LAST {
+        for entity in 0..2 {
             comparison.traces(tables, entity, time)?;
+        }
+        for members in small_lists(2) {
+            comparison.forward(tables, &members, time)?;
         }
     }
     comparison.kept_logs(tables)

@@ -1,7 +1,7 @@
 //! Tables of every length, buffers and outputs of every length near the one
 //! asked for, entities and times at their extremes.
 
-use crate::calls::{kept_log, log_length, traces, BufferLengths};
+use crate::calls::{forward, kept_log, log_length, traces, BufferLengths};
 use crate::comparison::{Compared, Comparison};
 use crate::worked_trail::worked_tables;
 use reference::capacity::{EDGE_ROW, ENTITY_ROW, VERSION_ROW};
@@ -47,6 +47,7 @@ pub fn extremes(comparison: &mut Comparison, random: &mut Random) -> Compared {
     tables.push(Tables::fresh(TableLengths::of_rows(3, 3, 3)));
     for tables in tables {
         extreme_traces(comparison, &tables)?;
+        extreme_lists(comparison, &tables)?;
         extreme_outputs(comparison, &tables)?;
     }
     Ok(())
@@ -59,6 +60,29 @@ fn extreme_traces(comparison: &mut Comparison, tables: &Tables) -> Compared {
                 for call in traces(entity, time, lengths) {
                     comparison.call(tables, call)?;
                 }
+            }
+        }
+    }
+    Ok(())
+}
+
+/// The empty list, lists of declared members alone, and lists with another one
+/// at the first, a middle and the last place.
+fn extreme_lists(comparison: &mut Comparison, tables: &Tables) -> Compared {
+    let count = tables.counts.entities;
+    let last = count.saturating_sub(1);
+    let lists: [&[u32]; 6] = [
+        &[],
+        &[last, 0, last],
+        &[0, last, 0, last, 0, last, 0],
+        &[u32::MAX, 0],
+        &[0, count, last],
+        &[last, 0, u32::MAX],
+    ];
+    for members in lists {
+        for time in extreme_times(tables.counts.last) {
+            for lengths in buffer_lengths(tables) {
+                comparison.call(tables, forward(members, time, lengths))?;
             }
         }
     }

@@ -1,14 +1,14 @@
 //! Lists of calls that start from a fresh trail, beside the full list of
 //! accepted events.
 
-use crate::calls::{times_of, traces, BufferLengths};
+use crate::calls::{forward, small_lists, times_of, traces, BufferLengths};
 use crate::comparison::{Compared, Comparison};
 use crate::difference::{differ, Difference};
 use crate::made::Made;
 use crate::round_trip::taken_in_again;
 use reference::file::events_among;
 use reference::full_list::StandsFor;
-use reference::generate::{call_list, lend_anew, roomy_lengths, LentCall};
+use reference::generate::{any_members, any_time, call_list, lend_anew, roomy_lengths, LentCall};
 use reference::{Answer, Call, FullList, Random, TableLengths, Tables};
 
 const LISTS: usize = 60;
@@ -17,6 +17,8 @@ const CALLS: usize = 14;
 const ALL_ONE_IN: usize = 10;
 /// Places traced at the end of each other list.
 const TRACES: usize = 60;
+/// Lists of members traced at the end of each list of calls.
+const MEMBER_LISTS: usize = 30;
 
 pub fn lists_of_calls(comparison: &mut Comparison, random: &mut Random) -> Compared {
     for number in 0..LISTS {
@@ -31,6 +33,7 @@ pub fn lists_of_calls(comparison: &mut Comparison, random: &mut Random) -> Compa
         } else {
             trail.some_traces(comparison, random)?;
         }
+        trail.some_lists(comparison, random)?;
     }
     Ok(())
 }
@@ -118,6 +121,33 @@ impl ListTrail {
             self.call(comparison, call)?;
         }
         Ok(())
+    }
+
+    /// The forward traces of some lists at some times.
+    fn some_lists(&mut self, comparison: &mut Comparison, random: &mut Random) -> Compared {
+        let counts = self.tables.counts;
+        for _ in 0..MEMBER_LISTS {
+            let members = any_members(random, counts.entities);
+            self.forward(comparison, &members, any_time(random, counts.last))?;
+        }
+        Ok(())
+    }
+
+    /// The forward traces of the empty list, and of small lists at each time.
+    pub fn small_lists(&mut self, comparison: &mut Comparison) -> Compared {
+        self.forward(comparison, &[], self.tables.counts.last)?;
+        let times = times_of(&self.tables);
+        for members in small_lists(self.tables.counts.entities) {
+            for time in &times {
+                self.forward(comparison, &members, *time)?;
+            }
+        }
+        Ok(())
+    }
+
+    fn forward(&mut self, comparison: &mut Comparison, members: &[u32], time: u32) -> Compared {
+        let lengths = BufferLengths::of(self.tables.counts);
+        self.call(comparison, forward(members, time, lengths))
     }
 
     fn trace_places(&self) -> Vec<(u32, u32)> {

@@ -4,11 +4,13 @@ use crate::comparison::{Compared, Comparison};
 use crate::round_trip::taken_in_again;
 use reference::capacity::{MOST_ACCEPTED, MOST_EDGES, MOST_ENTITIES, MOST_VERSIONS};
 use reference::file::HEADER;
-use reference::generate::long_file;
+use reference::generate::{declared_members, long_file};
 use reference::{Kind, Random, TableLengths, Tables};
 
 const TRACES_AT_CAPS: usize = 2;
 const TRACES: usize = 8;
+/// The most members of a list.
+const MEMBERS: usize = 30;
 
 /// Files refused for want of a version row, of an edge row and of accepted
 /// events, each grown from fresh to the cap.
@@ -52,9 +54,13 @@ fn some_traces(
     count: usize,
 ) -> Compared {
     for _ in 0..count {
-        let entity = random.below(tables.counts.entities as usize) as u32;
+        let entities = tables.counts.entities;
+        let length = random.below(MEMBERS + 1);
+        let members = declared_members(random, entities, length);
+        let entity = random.below(entities as usize) as u32;
         let time = random.between(0, tables.counts.last);
         comparison.traces(tables, entity, time)?;
+        comparison.forward(tables, &members, time)?;
     }
     Ok(())
 }

@@ -18,7 +18,16 @@ pub fn first_difference(archive: &Made, reference: &Made) -> Option<String> {
         .or_else(|| differ_at("entities", &tables.entities, &expected.entities))
         .or_else(|| differ_at("versions", &tables.versions, &expected.versions))
         .or_else(|| differ_at("edges", &tables.edges, &expected.edges))
+        .or_else(|| differ_at("members", members(&archive.call), members(&reference.call)))
         .or_else(|| differ_in_buffers(&archive.call, &reference.call))
+}
+
+/// The list lent to a forward trace.
+fn members(call: &Call) -> &[u32] {
+    match call {
+        Call::Forward { members, .. } => members,
+        _ => &[],
+    }
 }
 
 fn differ_in_buffers(archive: &Call, reference: &Call) -> Option<String> {

@@ -15,6 +15,7 @@ mod lengths;
 mod lists;
 mod long_files;
 mod made;
+mod members;
 mod round_trip;
 mod sections;
 mod tables;

@@ -2,7 +2,7 @@
 
 use crate::comparison::{Compared, Comparison};
 use crate::{caps, every_file, every_table, faults, lengths, lists, long_files};
-use crate::{tables, worked_trail};
+use crate::{members, tables, worked_trail};
 use reference::Random;
 
 /// One kind of calls, made from a seed.
@@ -12,7 +12,7 @@ pub struct Section {
 }
 
 /// Made in each round, each time from another seed.
-pub const EACH_ROUND: [Section; 10] = [
+pub const EACH_ROUND: [Section; 11] = [
     Section {
         name: "lists of calls, also by the full list",
         run: lists::lists_of_calls,
@@ -42,6 +42,10 @@ pub const EACH_ROUND: [Section; 10] = [
         run: tables::sound_traces,
     },
     Section {
+        name: "lists of members, also each member alone",
+        run: members::lists_of_members,
+    },
+    Section {
         name: "unsound tables of each clause",
         run: tables::unsound_clauses,
     },
@@ -56,7 +60,7 @@ pub const EACH_ROUND: [Section; 10] = [
 ];
 
 /// Made once.
-pub const ONCE: [Section; 9] = [
+pub const ONCE: [Section; 10] = [
     Section {
         name: "the worked trail",
         run: worked_trail::worked_trail,
@@ -64,6 +68,10 @@ pub const ONCE: [Section; 9] = [
     Section {
         name: "traces of as many passes as versions",
         run: tables::many_passes,
+    },
+    Section {
+        name: "long lists of members",
+        run: members::long_lists,
     },
     Section {
         name: "every file of few records",

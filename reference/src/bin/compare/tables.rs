@@ -31,12 +31,12 @@ pub fn sound_shapes(comparison: &mut Comparison, random: &mut Random) -> Compare
 pub fn sound_traces(comparison: &mut Comparison, random: &mut Random) -> Compared {
     for _ in 0..TRACED {
         let tables = sound_tables(random);
-        comparison.all_traces(&tables)?;
+        comparison.all_traces(random, &tables)?;
         comparison.kept_logs(&tables)?;
     }
     for _ in 0..MIDDLE_SIZED {
         let tables = middle_sized(random);
-        comparison.all_traces(&tables)?;
+        comparison.all_traces(random, &tables)?;
         comparison.each_call(random, &tables)?;
     }
     Ok(())
@@ -54,10 +54,13 @@ pub fn many_passes(comparison: &mut Comparison, _: &mut Random) -> Compared {
     for count in [1, 2, 3, 4, 5, 16, 100, 700] {
         let tables = tables_of_late_first_forks(count);
         let last = tables.counts.last;
-        for entity in [0, count / 2, count - 1] {
-            for time in [0, 1, last / 2, last, u32::MAX] {
+        let entities = [0, count / 2, count - 1];
+        for time in [0, 1, last / 2, last, u32::MAX] {
+            for entity in entities {
                 comparison.traces(&tables, entity, time)?;
             }
+            comparison.forward(&tables, &entities, time)?;
+            comparison.forward(&tables, &entities[1..], time)?;
         }
         comparison.kept_logs(&tables)?;
     }

@@ -1,6 +1,7 @@
 //! The worked trail: every cut and many damages of its file, every small
 //! capacity, every length of its tables, all its traces.
 
+use crate::calls::{small_lists, times_of};
 use crate::comparison::{Compared, Comparison};
 use reference::capacity::{EDGE_ROW, ENTITY_ROW, VERSION_ROW};
 use reference::generate::lend_anew;
@@ -23,8 +24,20 @@ pub fn worked_trail(comparison: &mut Comparison, random: &mut Random) -> Compare
     damages(comparison, random)?;
     capacities(comparison, random)?;
     let tables = worked_tables();
-    comparison.all_traces(&tables)?;
+    comparison.all_traces(random, &tables)?;
+    lists(comparison, &tables)?;
     comparison.kept_logs(&tables)
+}
+
+/// The empty list, and small lists at each time.
+fn lists(comparison: &mut Comparison, tables: &Tables) -> Compared {
+    comparison.forward(tables, &[], tables.counts.last)?;
+    for members in small_lists(tables.counts.entities) {
+        for time in times_of(tables) {
+            comparison.forward(tables, &members, time)?;
+        }
+    }
+    Ok(())
 }
 
 fn cuts(comparison: &mut Comparison, random: &mut Random) -> Compared {
