@@ -109,14 +109,19 @@ pub struct FullTrail {
 }
 
 impl FullTrail {
+    /// With all version and edge rows in use.
     pub fn grown() -> FullTrail {
+        let trail = FullTrail::of_file(&FULL.file());
+        assert_eq!(trail.tables.counts.versions as usize, MOST_VERSIONS);
+        assert_eq!(trail.tables.counts.edges as usize, MOST_EDGES);
+        trail
+    }
+
+    pub fn of_file(file: &[u8]) -> FullTrail {
         let (mut tables, mut peer) = (largest_tables(), Trail::new());
-        let file = FULL.file();
-        let of_peer = Answer::Batch(peer.batch(whole_capacity(), &file));
-        assert_eq!(Answer::Batch(library::batch(&mut tables, &file)), of_peer);
+        let of_peer = Answer::Batch(peer.batch(whole_capacity(), file));
+        assert_eq!(Answer::Batch(library::batch(&mut tables, file)), of_peer);
         assert_same_rows(&tables, &peer);
-        assert_eq!(tables.counts.versions as usize, MOST_VERSIONS);
-        assert_eq!(tables.counts.edges as usize, MOST_EDGES);
         FullTrail { tables, peer }
     }
 

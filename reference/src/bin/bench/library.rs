@@ -1,7 +1,7 @@
 //! The library's calls on lent tables, with nothing copied.
 
-use reference::archive::interface::{slt_batch, slt_kept_log, Trace};
-use reference::{BatchAnswer, LogAnswer, Tables};
+use reference::archive::interface::{slt_backward, slt_batch, slt_forward, slt_kept_log};
+use reference::{BackwardAnswer, BatchAnswer, ForwardAnswer, LogAnswer, Tables};
 
 pub fn batch(tables: &mut Tables, file: &[u8]) -> BatchAnswer {
     // Sound: each pointer and length belong to a slice of their own.
@@ -20,17 +20,16 @@ pub fn batch(tables: &mut Tables, file: &[u8]) -> BatchAnswer {
     }
 }
 
-/// A backward or forward trace.
-pub fn trace<A>(
-    function: Trace<A>,
+pub fn backward(
     tables: &Tables,
-    (entity, time): (u32, u32),
+    entity: u32,
+    time: u32,
     work: &mut [u8],
     marks: &mut [u8],
-) -> A {
+) -> BackwardAnswer {
     // Sound: each pointer and length belong to a slice of their own.
     unsafe {
-        function(
+        slt_backward(
             tables.counts,
             tables.entities.as_ptr(),
             tables.entities.len(),
@@ -39,6 +38,34 @@ pub fn trace<A>(
             tables.edges.as_ptr(),
             tables.edges.len(),
             entity,
+            time,
+            work.as_mut_ptr(),
+            work.len(),
+            marks.as_mut_ptr(),
+            marks.len(),
+        )
+    }
+}
+
+pub fn forward(
+    tables: &Tables,
+    members: &[u32],
+    time: u32,
+    work: &mut [u8],
+    marks: &mut [u8],
+) -> ForwardAnswer {
+    // Sound: each pointer and length belong to a slice of their own.
+    unsafe {
+        slt_forward(
+            tables.counts,
+            tables.entities.as_ptr(),
+            tables.entities.len(),
+            tables.versions.as_ptr(),
+            tables.versions.len(),
+            tables.edges.as_ptr(),
+            tables.edges.len(),
+            members.as_ptr(),
+            members.len(),
             time,
             work.as_mut_ptr(),
             work.len(),

@@ -11,6 +11,7 @@ mod line;
 mod measure;
 mod real;
 mod report;
+mod studies;
 mod traces;
 mod worst;
 
@@ -45,6 +46,7 @@ fn run() {
     }
     let growth = Growth::measured();
     report::print_growth(&growth);
+    report::print_studies(&studies::studies());
     report::print_reductions(&real::reductions());
     report::print_goals(&lines, &growth);
 }

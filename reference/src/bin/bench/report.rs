@@ -3,6 +3,7 @@
 use crate::growth::{Growth, BASE};
 use crate::line::{Goal, Line};
 use crate::real::Reduction;
+use crate::studies::{Studies, STUDIES};
 use reference::Counts;
 
 /// The paper's events a second.
@@ -46,8 +47,8 @@ pub fn print_line(line: &Line) {
     print_columns(&line.name, [to_peer, to_floor, to_row_floor, events]);
 }
 
-fn print_columns(name: &str, [peer, floor, row_floor, events]: [String; 4]) {
-    println!("{name:<70}{peer:>12}{floor:>12}{row_floor:>12}{events:>13}");
+fn print_columns(name: &str, [first, second, third, fourth]: [String; 4]) {
+    println!("{name:<70}{first:>12}{second:>12}{third:>12}{fourth:>13}");
 }
 
 fn ratio(ratio: f64) -> String {
@@ -85,6 +86,24 @@ pub fn print_growth(growth: &Growth) {
         let to_peer = line.to_peer().map_or("-".to_string(), ratio);
         let to_floor = ratio(line.to_floor());
         println!("{edges:>9}{own:>12}{peer:>12}{to_peer:>14}{to_floor:>14}");
+    }
+}
+
+pub fn print_studies(all: &[Studies]) {
+    println!(
+        "\nForward trace of {STUDIES} studies in one call of the library, to a call for each,"
+    );
+    println!("to a call of one of them and to (a), and beside it a call of one to (a)");
+    let titles = ["to each", "to one", "to (a)", "one to (a)"].map(String::from);
+    print_columns("", titles);
+    for studies in all {
+        let ratios = [
+            studies.to_in_turn(),
+            studies.to_one(),
+            studies.to_peer(),
+            studies.one_to_peer(),
+        ];
+        print_columns(&studies.name, ratios.map(ratio));
     }
 }
 

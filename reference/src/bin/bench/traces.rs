@@ -5,26 +5,25 @@ use crate::floor::{follow_edges, read_rows, read_tables};
 use crate::library;
 use crate::line::{Goal, Line};
 use crate::measure::{medians, repeated};
-use reference::archive::interface::{slt_backward, slt_forward};
 use reference::peer::Trail;
 use reference::Tables;
 
 /// A trace to be timed.
-#[derive(Clone, Copy, Debug)]
-pub struct Trace {
-    pub is_backward: bool,
-    pub entity: u32,
-    pub time: u32,
+#[derive(Clone, Debug)]
+pub enum Trace {
+    Backward { entity: u32, time: u32 },
+    Forward { members: Vec<u32>, time: u32 },
 }
 
 /// A work buffer and a mark buffer.
-struct Buffers {
+#[derive(PartialEq, Eq)]
+pub struct Buffers {
     work: Vec<u8>,
     marks: Vec<u8>,
 }
 
 impl Buffers {
-    fn of(tables: &Tables) -> Buffers {
+    pub fn of(tables: &Tables) -> Buffers {
         Buffers {
             work: vec![7; tables.counts.versions as usize],
             marks: vec![7; tables.counts.entities as usize],
@@ -33,44 +32,66 @@ impl Buffers {
 }
 
 impl Trace {
-    fn direction(self) -> &'static str {
-        match self.is_backward {
-            true => "backward",
-            false => "forward",
+    pub fn backward(entity: u32, time: u32) -> Trace {
+        Trace::Backward { entity, time }
+    }
+
+    /// The forward trace of a list of one.
+    pub fn forward(entity: u32, time: u32) -> Trace {
+        let members = vec![entity];
+        Trace::Forward { members, time }
+    }
+
+    fn direction(&self) -> &'static str {
+        match self {
+            Trace::Backward { .. } => "backward",
+            Trace::Forward { .. } => "forward",
         }
     }
 
     /// The library's refusal, count and intake.
-    fn on_library(self, tables: &Tables, buffers: &mut Buffers) -> [u32; 3] {
+    pub fn on_library(&self, tables: &Tables, buffers: &mut Buffers) -> [u32; 3] {
         let Buffers { work, marks } = buffers;
-        let place = (self.entity, self.time);
-        if self.is_backward {
-            let answer = library::trace(slt_backward, tables, place, work, marks);
-            [answer.refusal, answer.count, 0]
-        } else {
-            let answer = library::trace(slt_forward, tables, place, work, marks);
-            [answer.refusal, answer.count, answer.intake]
+        match self {
+            Trace::Backward { entity, time } => {
+                let answer = library::backward(tables, *entity, *time, work, marks);
+                [answer.refusal, answer.count, 0]
+            }
+            Trace::Forward { members, time } => {
+                let answer = library::forward(tables, members, *time, work, marks);
+                [answer.refusal, answer.count, answer.intake]
+            }
         }
     }
 
     /// The peer's refusal, count and intake.
-    fn on_peer(self, peer: &Trail, buffers: &mut Buffers) -> [u32; 3] {
+    pub fn on_peer(&self, peer: &Trail, buffers: &mut Buffers) -> [u32; 3] {
         let Buffers { work, marks } = buffers;
-        if self.is_backward {
-            let answer = peer.backward(self.entity, self.time, work, marks);
-            [answer.refusal, answer.count, 0]
-        } else {
-            let answer = peer.forward(self.entity, self.time, work, marks);
-            [answer.refusal, answer.count, answer.intake]
+        match self {
+            Trace::Backward { entity, time } => {
+                let answer = peer.backward(*entity, *time, work, marks);
+                [answer.refusal, answer.count, 0]
+            }
+            Trace::Forward { members, time } => {
+                let answer = peer.forward(members, *time, work, marks);
+                [answer.refusal, answer.count, answer.intake]
+            }
         }
     }
 
-    /// Times the trace on both sides.
-    pub fn line(self, name: &str, goal: Goal, tables: &Tables, peer: &Trail) -> Line {
+    /// The answer of both sides, which must have done the same.
+    pub fn on_both(&self, tables: &Tables, peer: &Trail) -> [u32; 3] {
         let (mut of_library, mut of_peer) = (Buffers::of(tables), Buffers::of(tables));
         let answer = self.on_library(tables, &mut of_library);
         assert_eq!(answer, self.on_peer(peer, &mut of_peer));
-        assert!(of_library.work == of_peer.work && of_library.marks == of_peer.marks);
+        assert!(of_library == of_peer);
+        answer
+    }
+
+    /// Times the trace on both sides.
+    pub fn line(&self, name: &str, goal: Goal, tables: &Tables, peer: &Trail) -> Line {
+        let answer = self.on_both(tables, peer);
+        let (mut of_library, mut of_peer) = (Buffers::of(tables), Buffers::of(tables));
         let [library, peer, floor, row_floor] = medians([
             Box::new(|| repeated(|| self.on_library(tables, &mut of_library))),
             Box::new(|| repeated(|| self.on_peer(peer, &mut of_peer))),
@@ -95,8 +116,8 @@ impl FullTrail {
     /// with the largest.
     pub fn traces(&self) -> Vec<Line> {
         let mut lines = Vec::new();
-        for is_backward in [true, false] {
-            let (small, large) = self.small_and_large(is_backward);
+        for direction in [Trace::backward, Trace::forward] {
+            let (small, large) = self.small_and_large(direction);
             for trace in [small, large] {
                 lines.push(trace.line("full trail", Goal::Trace, &self.tables, &self.peer));
             }
@@ -104,25 +125,20 @@ impl FullTrail {
         lines
     }
 
-    fn small_and_large(&self, is_backward: bool) -> (Trace, Trace) {
+    fn small_and_large(&self, direction: fn(u32, u32) -> Trace) -> (Trace, Trace) {
         let counts = self.tables.counts;
         let mut buffers = Buffers::of(&self.tables);
         let entities = (0..counts.entities).step_by(64);
         let times = [0, 1, 4, 8].map(|part| counts.last / 8 * part);
-        let trace = |entity| {
-            times.map(|time| Trace {
-                is_backward,
-                entity,
-                time,
-            })
-        };
+        let trace = |entity| times.map(|time| direction(entity, time));
         let mut by_count: Vec<(u32, Trace)> = entities
             .flat_map(trace)
             .map(|trace| (trace.on_peer(&self.peer, &mut buffers)[1], trace))
             .filter(|(count, _)| *count > 1)
             .collect();
         by_count.sort_by_key(|(count, _)| *count);
-        (by_count[0].1, by_count[by_count.len() - 1].1)
+        let (small, large) = (&by_count[0], &by_count[by_count.len() - 1]);
+        (small.1.clone(), large.1.clone())
     }
 
     /// The kept log, written and refused, a refused trace, and beside them
@@ -186,11 +202,7 @@ impl FullTrail {
 
     fn undeclared(&self, name: &str) -> Line {
         let mut buffers = Buffers::of(&self.tables);
-        let trace = Trace {
-            is_backward: true,
-            entity: self.tables.counts.entities,
-            time: 0,
-        };
+        let trace = Trace::backward(self.tables.counts.entities, 0);
         assert_eq!(trace.on_library(&self.tables, &mut buffers), [5, 0, 0]);
         let [library, floor, row_floor] = medians([
             Box::new(|| repeated(|| trace.on_library(&self.tables, &mut buffers))),

@@ -54,12 +54,7 @@ fn traces_against_the_edges(versions: u32) -> Vec<Line> {
     let peer = Trail::of_tables(&tables);
     let last = (versions - 1) % MOST_ENTITIES as u32;
     let name = format!("worst: {versions} versions, as many passes");
-    let trace = |is_backward, entity, time| Trace {
-        is_backward,
-        entity,
-        time,
-    };
-    let traces = [trace(true, last, u32::MAX), trace(false, 0, 0)];
+    let traces = [Trace::backward(last, u32::MAX), Trace::forward(0, 0)];
     let line = |trace: Trace| trace.line(&name, Goal::None, &tables, &peer);
     traces.map(line).into_iter().collect()
 }
