@@ -35,5 +35,5 @@ pub use records::RecordSource;
 pub use refused_batches::{refused_batch, RefusedBatch};
 pub use shapes::Shape;
 pub use sound_tables::{sound_tables, sound_tables_of_shape};
-pub use traces::{any_backward, any_forward, any_time, any_trace};
+pub use traces::{any_backward, any_forward, any_time};
 pub use unsound_tables::{unsound_tables, unsound_tables_by_one_number};

@@ -34,7 +34,7 @@ impl BufferLengths {
     }
 }
 
-pub fn backward(entity: u32, time: u32, lengths: BufferLengths) -> Call {
+fn backward(entity: u32, time: u32, lengths: BufferLengths) -> Call {
     Call::Backward {
         entity,
         time,
