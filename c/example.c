@@ -92,13 +92,40 @@ static void trace_backward(uint32_t entity, uint32_t time)
         answer.refusal == SLT_NOT_REFUSED && answer.count == 3 && marks_are(1, 1, 1, 0));
 }
 
-static void trace_forward(uint32_t entity, uint32_t time)
+/* Forward from each entity of a list, all at once. */
+static void trace_forward(
+    const uint32_t *members, size_t length, uint32_t time, const char *what, uint32_t count, uint32_t intake, const uint8_t marked[4])
 {
-    slt_forward_answer answer = slt_forward(counts, TABLES, entity, time, work, LENGTH(work), marks, LENGTH(marks));
-    printf("forward %u at %u refusal %u count %u intake %u", entity, time, answer.refusal, answer.count, answer.intake);
+    slt_forward_answer answer = slt_forward(counts, TABLES, members, length, time, work, LENGTH(work), marks, LENGTH(marks));
+    printf("forward");
+    for (size_t i = 0; i < length; i++) {
+        printf(" %u", members[i]);
+    }
+    printf(" at %u refusal %u count %u intake %u", time, answer.refusal, answer.count, answer.intake);
     print_marks();
-    expect("the montage reaches stager and report",
-        answer.refusal == SLT_NOT_REFUSED && answer.count == 3 && answer.intake == 0 && marks_are(0, 1, 1, 1));
+    expect(what, answer.refusal == SLT_NOT_REFUSED && answer.count == count && answer.intake == intake
+        && marks_are(marked[0], marked[1], marked[2], marked[3]));
+}
+
+static void trace_forwards(void)
+{
+    static const uint32_t montage[] = { 3 }, both[] = { 1, 2 }, repeated[] = { 2, 1, 1, 2 };
+    static const uint8_t from_montage[] = { 0, 1, 1, 1 }, from_both[] = { 0, 1, 1, 0 }, from_none[] = { 0, 0, 0, 0 };
+    trace_forward(montage, LENGTH(montage), 0, "the montage reaches stager and report", 3, 0, from_montage);
+    trace_forward(both, LENGTH(both), 6, "stager and report, from the stager's intake", 2, 5, from_both);
+    trace_forward(repeated, LENGTH(repeated), 6, "repeats and the order change nothing", 2, 5, from_both);
+    trace_forward(NULL, 0, 6, "an empty list marks nothing", 0, 0, from_none);
+}
+
+/* One member that is not declared refuses the list, and nothing is written. */
+static void refused_forward(void)
+{
+    static const uint32_t members[] = { 3, 1, 4 };
+    memset(marks, 0xA5, sizeof marks);
+    slt_forward_answer answer = slt_forward(counts, TABLES, members, LENGTH(members), 6, work, LENGTH(work), marks, LENGTH(marks));
+    printf("forward 3 1 4 at 6 refusal %u count %u intake %u\n", answer.refusal, answer.count, answer.intake);
+    expect("4 is not declared", answer.refusal == SLT_UNDECLARED && answer.count == 0 && answer.intake == 0);
+    expect("no mark is written", marks_are(0xA5, 0xA5, 0xA5, 0xA5));
 }
 
 /* The log is taken in again, into a fresh trail, and gives the same edges, each standing for its own event alone. */
@@ -147,9 +174,11 @@ static void nothing_lent(void)
 {
     static const uint8_t header[SLT_HEADER_LENGTH] = { 0x53, 0x4C, 0x54, 1, 0, 0, 0, 0 };
     slt_counts fresh = { 0, 0, 0, 0, 0 };
+    uint32_t none = 0;
     expect("a header alone is taken in", slt_batch(&fresh, NO_TABLES, header, sizeof header).refusal == SLT_NOT_REFUSED);
     expect("no entity to trace back", slt_backward(fresh, NO_TABLES, 0, 0, NULL, 0, NULL, 0).refusal == SLT_UNDECLARED);
-    expect("no entity to trace on", slt_forward(fresh, NO_TABLES, 0, 0, NULL, 0, NULL, 0).refusal == SLT_UNDECLARED);
+    expect("no entity to trace on", slt_forward(fresh, NO_TABLES, &none, 1, 0, NULL, 0, NULL, 0).refusal == SLT_UNDECLARED);
+    expect("an empty list to trace on", slt_forward(fresh, NO_TABLES, NULL, 0, 0, NULL, 0, NULL, 0).refusal == SLT_NOT_REFUSED);
     expect("no room for a header", slt_kept_log(fresh, NO_TABLES, NULL, 0).refusal == SLT_OUTPUT_SHORT);
 }
 
@@ -157,7 +186,8 @@ int main(void)
 {
     take_in();
     trace_backward(2, 4);
-    trace_forward(3, 0);
+    trace_forwards();
+    refused_forward();
     refused_log();
     refused_batch();
     write_log();

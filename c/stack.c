@@ -22,6 +22,7 @@ static uint32_t versions[SLT_VERSION_WIDTH * SLT_MOST_VERSIONS];
 static uint32_t edges[SLT_EDGE_WIDTH * SLT_MOST_EDGES];
 static uint8_t work[SLT_MOST_VERSIONS];
 static uint8_t marks[SLT_MOST_ENTITIES];
+static uint32_t members[2 * SLT_MOST_ENTITIES];
 
 static slt_batch_answer batch_answer;
 static slt_backward_answer backward_answer;
@@ -87,9 +88,13 @@ static void *trace_backward(void *unused)
     return unused;
 }
 
+/* From every entity, twice. */
 static void *trace_forward(void *unused)
 {
-    forward_answer = slt_forward(counts, TABLES, 0, 0, work, LENGTH(work), marks, LENGTH(marks));
+    for (uint32_t i = 0; i < LENGTH(members); i++) {
+        members[i] = i % SLT_MOST_ENTITIES;
+    }
+    forward_answer = slt_forward(counts, TABLES, members, LENGTH(members), 0, work, LENGTH(work), marks, LENGTH(marks));
     return unused;
 }
 
@@ -121,7 +126,7 @@ int main(void)
     on_stack_of(SLT_TRACE_STACK, trace_backward);
     expect("the first comes from all", backward_answer.refusal == SLT_NOT_REFUSED && backward_answer.count == SLT_MOST_ENTITIES);
     on_stack_of(SLT_TRACE_STACK, trace_forward);
-    expect("the first reaches all", forward_answer.refusal == SLT_NOT_REFUSED && forward_answer.count == SLT_MOST_ENTITIES);
+    expect("each reaches all", forward_answer.refusal == SLT_NOT_REFUSED && forward_answer.count == SLT_MOST_ENTITIES);
     on_stack_of(SLT_LOG_STACK, write_log);
     expect("the kept log is the file", log_answer.refusal == SLT_NOT_REFUSED && log_answer.length == FILE_LENGTH
         && memcmp(log_bytes, file, sizeof file) == 0);

@@ -78,7 +78,7 @@ enum slt_refusal {
     SLT_WRONG_VERSION = 2,     /* the header's version is not 1 */
     SLT_CUT_SHORT = 3,         /* 1 to 11 bytes remain */
     SLT_BAD_FIELD = 4,         /* kind above 5, sort above 1, or a zero field that is not 0 */
-    SLT_UNDECLARED = 5,        /* entity not declared */
+    SLT_UNDECLARED = 5,        /* an entity is not declared */
     SLT_NOT_NEXT = 6,          /* the declared number is not the next */
     SLT_SOURCE_IS_TARGET = 7,  /* source equals target */
     SLT_WRONG_SORT = 8,        /* source or target of a sort that the kind does not allow */
@@ -153,19 +153,23 @@ slt_backward_answer slt_backward(
     uint8_t *marks, size_t marks_length);
 
 /*
- * The forward trace of an entity at a time. The intake is the greatest time, at or before the given one, of an edge that enters
- * the entity's start version, else that version's start. In a trail that batches grew from a fresh one, it is the time of the
- * last kept event into the entity at or before the given time, 0 if there is none, and the marked entities are those with a
- * causal path from the entity through events accepted after that one, itself among them.
+ * The forward trace of a list of entities at a time; one entity is a list of one. The list may be of any length, empty too, and hold
+ * an entity more than once: that, and the order of the members, changes nothing. An entity is marked if the trace of one of the
+ * members alone marks it. A member's intake is the greatest time, at or before the given one, of an edge that enters its start
+ * version, else that version's start; the intake given is the earliest of the members', 0 for an empty list. In a trail that
+ * batches grew from a fresh one, a member's intake is the time of the last kept event into it at or before the given time, 0 if
+ * there is none, and it marks the entities with a causal path from it through events accepted after that one, itself among them.
  *
- * Refusals and buffers as for slt_backward; refused, the intake is 0 too.
+ * Refused with 16, with 5 if any member is not declared, and with 14, of an empty list too; buffers as for slt_backward; refused, the
+ * intake is 0 too.
  */
 slt_forward_answer slt_forward(
     slt_counts counts,
     const uint32_t *entities, size_t entities_length,
     const uint32_t *versions, size_t versions_length,
     const uint32_t *edges, size_t edges_length,
-    uint32_t entity, uint32_t time,
+    const uint32_t *members, size_t members_length,
+    uint32_t time,
     uint8_t *work, size_t work_length,
     uint8_t *marks, size_t marks_length);
 

@@ -56,26 +56,27 @@ pub extern "C" fn slt_backward(
     trace::backward(counts, entities, versions, edges, entity, time, work, marks)
 }
 
-// Marks what the start version of the entity at the time leads to, and gives the intake. In a trail grown from a fresh one: what
-// the entity reached by events after its latest kept intake at or before the time, by any event if there is none.
+// Marks what the start version of any of the members at the time leads to, and gives the earliest of their intakes, 0 for an empty
+// list. In a trail grown from a fresh one: what a member reached by events after its latest kept intake at or before the time, by any
+// event if it has none.
 #[no_mangle]
 pub extern "C" fn slt_forward(
     counts: Counts,
     entities: &[u32],
     versions: &[u32],
     edges: &[u32],
-    entity: u32,
+    members: &[u32],
     time: u32,
     work: &mut [u8],
     marks: &mut [u8],
 ) -> ForwardAnswer
     ensures { λ r. ⌜ forwardTrace r (now (work .exit)) (now (marks .exit))
-        ≡ forwardOf counts (tables (now (entities .entry)) (now (versions .entry)) (now (edges .entry))) entity time
+        ≡ forwardOf counts (tables (now (entities .entry)) (now (versions .entry)) (now (edges .entry))) (now (members .entry)) time
         (now (work .entry)) (now (marks .entry)) ⌝ }
-    ensures { λ r. ⌜ ForwardPromise counts (tables (now (entities .entry)) (now (versions .entry)) (now (edges .entry))) entity time
-        (now (work .entry)) (now (marks .entry)) (forwardTrace r (now (work .exit)) (now (marks .exit))) ⌝ }
+    ensures { λ r. ⌜ ForwardPromise counts (tables (now (entities .entry)) (now (versions .entry)) (now (edges .entry)))
+        (now (members .entry)) time (now (work .entry)) (now (marks .entry)) (forwardTrace r (now (work .exit)) (now (marks .exit))) ⌝ }
 {
-    trace::forward(counts, entities, versions, edges, entity, time, work, marks)
+    trace::forward(counts, entities, versions, edges, members, time, work, marks)
 }
 
 // Writes the kept log: an event file of the declarations and the kept events.

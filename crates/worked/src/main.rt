@@ -190,7 +190,16 @@ fn backward(c: Counts, entities: &[u32], versions: &[u32], edges: &[u32], entity
     say_marks(marks);
 }
 
-fn forward(c: Counts, entities: &[u32], versions: &[u32], edges: &[u32], entity: u32, time: u32) {
+// One forward trace of a list of entities; the word names them.
+fn forward(
+    c: Counts,
+    entities: &[u32],
+    versions: &[u32],
+    edges: &[u32],
+    word: &[u8],
+    members: &[u32],
+    time: u32,
+) {
     let mut work = [0u8; 5];
     let mut marks = [0u8; 4];
     let a = trace::forward(
@@ -198,12 +207,12 @@ fn forward(c: Counts, entities: &[u32], versions: &[u32], edges: &[u32], entity:
         entities,
         versions,
         edges,
-        entity,
+        members,
         time,
         &mut work,
         &mut marks,
     );
-    say(b"forward ", wide(entity));
+    io::write_all(STDOUT_FILENO, word);
     say(b" at ", wide(time));
     say(b": refusal ", wide(a.refusal));
     say(b" count ", wide(a.count));
@@ -216,10 +225,15 @@ fn traces(c: Counts, entities: &[u32], versions: &[u32], edges: &[u32]) {
     backward(c, entities, versions, edges, 2, 4);
     backward(c, entities, versions, edges, 2, 5);
     backward(c, entities, versions, edges, 2, 6);
-    forward(c, entities, versions, edges, 3, 0);
-    forward(c, entities, versions, edges, 1, 4);
-    forward(c, entities, versions, edges, 1, 5);
-    forward(c, entities, versions, edges, 0, 4);
+    let study = [0u32; 1];
+    let stager = [1u32; 1];
+    let montage = [3u32; 1];
+    let both = [1u32, 2u32];
+    forward(c, entities, versions, edges, b"forward 3", &montage, 0);
+    forward(c, entities, versions, edges, b"forward 1", &stager, 4);
+    forward(c, entities, versions, edges, b"forward 1", &stager, 5);
+    forward(c, entities, versions, edges, b"forward 0", &study, 4);
+    forward(c, entities, versions, edges, b"forward 1 2", &both, 6);
 }
 
 fn log(c: Counts, entities: &[u32], versions: &[u32], edges: &[u32]) {
