@@ -58,5 +58,6 @@ firstOn W E n d = up (λ k. edgeOn W (E k)) d ++ up (λ v. stepOn (W v .previous
 unfoldable pub laterOn : (ℕ → VersionRow) → (ℕ → EdgeRow) → ℕ → ℕ → List Arc
 laterOn W E n d = up (λ k. targetOn (E k)) d ++ up (λ v. stepOn (W v .previous .0) v) n
 
-unfoldable pub markedOn : (ℕ → VersionRow) → (ℕ → EdgeRow) → ℕ → ℕ → ℕ → List ℕ
-markedOn W E n d s = passes n (laterOn W E n d) (pass (firstOn W E n d) (seeded n (s ∷ [])))
+-- marked after the passes from the marks m
+unfoldable pub markedOn : (ℕ → VersionRow) → (ℕ → EdgeRow) → ℕ → ℕ → List ℕ → List ℕ
+markedOn W E n d m = passes n (laterOn W E n d) (pass (firstOn W E n d) m)

@@ -3,27 +3,48 @@ use refusals::Checked;
 use refusals::Refusal;
 use rows::Counts;
 ghost use mathlib.Core.Path.{_≡_};
-ghost use Rattle.refusals.specs.Refusals.{firstOf};
-ghost use Rattle.rules.specs.Trail.{tables};
-ghost use Rattle.rules.specs.Backward.{traceChecks};
+ghost use mathlib.Core.Bool.{not};
+ghost use mathlib.Core.List.{_∷_};
+ghost use Rattle.refusals.specs.declared.Refusal.the-variants.{Unsound, Undeclared};
+ghost use Rattle.refusals.specs.Refusals.{check, firstOf};
+ghost use Rattle.rules.specs.Trail.{tables, capacityOf, trailOf};
+ghost use Rattle.rules.specs.Sound.{isSound};
+ghost use Rattle.rules.specs.Backward.{bufferChecks};
+ghost use Rattle.trace.specs.Starts.{anyUndeclared};
 
-// Of entity x, with the two buffers.
+// Whether one of the members is none of e entities.
+pub fn any_undeclared(e: u32, members: &[u32]) -> bool
+    ensures { λ r. ⌜ r ≡ anyUndeclared e (now (members .entry)) ⌝ }
+{
+    let mut i: usize = 0;
+    while i < members.len() {
+        if e <= members[i] {
+            return true;
+        }
+        i += 1;
+    }
+    false
+}
+
+// Of entities of which one is undeclared or none is, with the two buffers.
 pub fn check_trace(
     c: Counts,
     entities: &[u32],
     versions: &[u32],
     edges: &[u32],
-    x: u32,
+    undeclared: bool,
     work: &[u8],
     marks: &[u8],
 ) -> Checked
     ensures { λ r. ⌜ r ≡ firstOf
-        (traceChecks c (tables (now (entities .entry)) (now (versions .entry)) (now (edges .entry))) x (now (work .entry)) (now (marks .entry))) ⌝ }
+        (check (not (isSound (capacityOf (tables (now (entities .entry)) (now (versions .entry)) (now (edges .entry))))
+        (trailOf c (tables (now (entities .entry)) (now (versions .entry)) (now (edges .entry)))))) Unsound
+        ∷ (check undeclared Undeclared ∷ bufferChecks c (now (work .entry)) (now (marks .entry)))) ⌝ }
 {
     if !soundness::is_sound(c, entities, versions, edges) {
         return Checked::Refused(Refusal::Unsound);
     }
-    if c.entities <= x {
+    if undeclared {
         return Checked::Refused(Refusal::Undeclared);
     }
     if work.len() < (c.versions as usize) {

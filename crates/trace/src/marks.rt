@@ -38,6 +38,13 @@ pub fn mark(m: &mut [u8], i: u32)
     put_byte(m, i as usize, 1);
 }
 
+// Takes the mark at i away.
+pub fn unmark(m: &mut [u8], i: u32)
+    ensures { λ _. ⌜ now (m .exit) ≡ set (now (m .entry)) i 0 ⌝ }
+{
+    put_byte(m, i as usize, 0);
+}
+
 // Takes all marks away.
 pub fn clear(m: &mut [u8])
     ensures { λ _. ⌜ now (m .exit) ≡ replicate (length (now (m .entry))) 0 ⌝ }

@@ -1,8 +1,6 @@
 // Closing marked versions forward: along edges and from previous versions, the lowest number first.
 // The buffer has no byte for the number that says that there is no previous version, so none is marked there.
-use super::marks::clear;
 use super::marks::follow_arc;
-use super::marks::mark;
 use super::marks::mark_if;
 use super::marks::marked;
 use rows::Counts;
@@ -132,14 +130,12 @@ fn close_on(versions: &[u32], n: u32, edges: &[u32], d: u32, work: &mut [u8])
     }
 }
 
-// In a buffer with a byte for each version, marks what a forward trace from version s marks. Where the first pass adds no
-// mark no later one does.
-pub fn mark_on(c: Counts, versions: &[u32], edges: &[u32], work: &mut [u8], s: VersionNo)
+// Marks what a forward trace marks from the versions marked in a buffer with a byte for each version. Where the first pass
+// adds no mark no later one does.
+pub fn mark_on(c: Counts, versions: &[u32], edges: &[u32], work: &mut [u8])
     requires { ⌜ (c .versions ≤ versionCapacity (now versions)) × (c .edges ≤ edgeCapacity (now edges)) × (c .versions ≡ length (now work)) ⌝ }
-    ensures { λ _. ⌜ now (work .exit) ≡ markedOn (versionAt (now (versions .entry))) (edgeAt (now (edges .entry))) (c .versions) (c .edges) (s .0) ⌝ }
+    ensures { λ _. ⌜ now (work .exit) ≡ markedOn (versionAt (now (versions .entry))) (edgeAt (now (edges .entry))) (c .versions) (c .edges) (now (work .entry)) ⌝ }
 {
-    clear(work);
-    mark(work, s.0);
     if first_on(versions, c.versions, edges, c.edges, work) {
         close_on(versions, c.versions, edges, c.edges, work);
     }

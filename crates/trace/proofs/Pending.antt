@@ -1,0 +1,37 @@
+-- How many marks there are: one less where one is taken away, at most one more where one is added.
+use Prim.Native.Nat.{ℕ, zero, suc, _+_, _≤_, _<_}
+use native.Mathlib.Nat.{le-of-suc-le-suc}
+use native.Mathlib.Omega.{arith}
+use mathlib.Core.Path.{_≡_, refl, sym, _∙_, ap}
+use mathlib.Core.Bool.{Bool, true, false, cond}
+use mathlib.Core.List.{List, [], _∷_}
+use lib.ListN.{length, getD, set, replicate}
+use lib.Dec.{eqb}
+use borrow.Author.Tests.{eq-eqb}
+use Rattle.rules.specs.Marks.{ones, seeded}
+use Rattle.closure.specs.Arcs.{Marked}
+
+pub ones-unmark : (m : List ℕ) (i : ℕ) → Marked m i → suc (ones (set m i 0)) ≡ ones m
+unfolding ones
+ones-unmark [] i h = absurd (omega arith)
+ones-unmark (x ∷ m) zero h = rw (eq-eqb x 1 h) (omega arith)
+ones-unmark (x ∷ m) (suc i) h = let q = ones-unmark m i h in omega arith
+
+ones-mark : (m : List ℕ) (i : ℕ) → ones (set m i 1) ≤ suc (ones m)
+unfolding ones
+ones-mark [] i = omega arith
+ones-mark (x ∷ m) zero = omega arith
+ones-mark (x ∷ m) (suc i) = let q = ones-mark m i in omega arith
+
+pub ones-none : (m : List ℕ) → ones m ≤ 0 → (i : ℕ) → Marked m i → ⊥
+ones-none m l i h = omega (arith, ones-unmark m i h)
+
+ones-zeros : (n : ℕ) → ones (replicate n 0) ≡ 0
+unfolding ones
+ones-zeros zero = refl
+ones-zeros (suc n) = ones-zeros n
+
+pub ones-seeded : (n : ℕ) (ss : List ℕ) → ones (seeded n ss) ≤ length ss
+unfolding seeded
+ones-seeded n [] = omega (arith, ones-zeros n)
+ones-seeded n (s ∷ ss) = omega (arith, ones-seeded n ss, ones-mark (seeded n ss) s)
