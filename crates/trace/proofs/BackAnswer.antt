@@ -1,7 +1,7 @@
 -- The answer and the buffers of a backward trace are those of document 01.
 use Prim.Native.Nat.{ℕ}
 use mathlib.Core.Path.{_≡_, sym, _∙_, ap}
-use mathlib.Core.List.{List, [], _++_}
+use mathlib.Core.List.{List, [], _∷_, _++_}
 use lib.ListN.{take, drop}
 use Rattle.refusals.specs.declared.Refusal.{Refusal}
 use Rattle.refusals.specs.declared.Checked.{Checked}
@@ -14,8 +14,7 @@ use Rattle.rules.specs.Trail.{Trail, tables, trailOf}
 use Rattle.rules.specs.Start.{startOf}
 use Rattle.rules.specs.Backward.{traceChecks, backwardWork, backwardEntities, backwardOf, backwardTrace}
 use Rattle.closure.proofs.Backward.{length-backwardWork}
-use Rattle.closure.proofs.Traces.{passed-entity}
-use Rattle.closure.proofs.Checked.{passed-rows}
+use Rattle.closure.proofs.Checked.{passed-rows, passed-entity}
 use Rattle.closure.proofs.TraceCalls.{backwardOf-passed}
 use Rattle.trace.specs.TraceArcs.{markedBack}
 use Rattle.trace.specs.Owners.{EntitiesMarked}
@@ -25,7 +24,7 @@ use Rattle.trace.proofs.Buffers.{left-work, left-marks}
 
 module _ (c : Counts) (es vs ds : List ℕ) (x t : ℕ) (work marks : List ℕ) where
   abbrev checked : Checked
-  checked = firstOf (traceChecks c (tables es vs ds) x work marks)
+  checked = firstOf (traceChecks c (tables es vs ds) (x ∷ []) work marks)
 
   abbrev T : Trail
   T = trailOf c (tables es vs ds)
@@ -50,7 +49,7 @@ module _ (c : Counts) (es vs ds : List ℕ) (x t : ℕ) (work marks : List ℕ) 
         marked =
             qw
             ∙ ap (λ v. markedBack (versionAt vs) (edgeAt ds) (c .versions) (c .edges) v t) (qs ∙ start-any c es vs ds x t)
-            ∙ work-back T (passed-rows c (tables es vs ds) x work marks p) x t (passed-entity c (tables es vs ds) x work marks p)
+            ∙ work-back T (passed-rows c (tables es vs ds) (x ∷ []) work marks p) x t (passed-entity c (tables es vs ds) x work marks p)
 
         pub backward-passed : backwardTrace (record { refusal = 0; count = n }) (part ++ drop (c .versions) work) marks′ ≡ backwardOf c (tables es vs ds) x t work marks
         unfolding backwardEntities

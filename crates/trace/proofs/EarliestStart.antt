@@ -15,12 +15,13 @@ use Rattle.closure.proofs.Marks.{marked-in}
 use Rattle.trace.specs.Intake.{Least, LeastStart}
 use Rattle.trace.proofs.Least.{least-empty, least-same, least-more}
 
-pub earlier-start : (W : ℕ → VersionRow) (m : List ℕ) (v b x y : ℕ) (q : Bool) → q ≡ eqb (getD m v 0) 1 → q ≡ true → x ≡ W v .start → y ≡ min b x
-    → y ≡ cond (eqb (getD m v 0) 1) (min b (W v .start)) b
-earlier-start W m v b x y q p h e z = rw (← p, h) (z ∙ ap (min b) e)
+-- one version, with start s
+module _ (m : List ℕ) (v b s : ℕ) (q : Bool) (p : q ≡ eqb (getD m v 0) 1) where
+  pub earlier-start : q ≡ true → (x y : ℕ) → x ≡ s → y ≡ min b x → y ≡ cond (eqb (getD m v 0) 1) (min b s) b
+  earlier-start h x y e z = rw (← p, h) (z ∙ ap (min b) e)
 
-pub no-start : (W : ℕ → VersionRow) (m : List ℕ) (v b : ℕ) (q : Bool) → q ≡ eqb (getD m v 0) 1 → q ≡ false → b ≡ cond (eqb (getD m v 0) 1) (min b (W v .start)) b
-no-start W m v b q p h = rw (← p, h)
+  pub no-start : q ≡ false → b ≡ cond (eqb (getD m v 0) 1) (min b s) b
+  no-start h = rw (← p, h)
 
 -- marked, and not passed
 abbrev From : List ℕ → ℕ → ℕ → Type 0
@@ -35,7 +36,7 @@ starts-begin W m b = record { rest = (λ r o. least-same (Marked m) (From m 0) _
 
 module _ (W : ℕ → VersionRow) (m : List ℕ) (b₀ v b : ℕ) (i : Starts W m b₀ v b) where
   pub starts-next : (b′ : ℕ) → b′ ≡ cond (eqb (getD m v 0) 1) (min b (W v .start)) b → Starts W m b₀ (v + 1) b′
-  starts-next b′ e = record { rest = (λ r o. i .rest r (go (eqb (getD m v 0) 1) refl r (subst (λ x. Least (From m (v + 1)) _ x r) e o))) }
+  starts-next b′ e = record { rest = (λ r o. i .rest r (go (eqb (getD m v 0) 1) refl r (subst (λ x. Least (From m (v + 1)) (λ w. W w .start) x r) e o))) }
     where
       back : (w : ℕ) → From m (v + 1) w → From m v w
       back w p = (omega (arith, p .0), p .1)

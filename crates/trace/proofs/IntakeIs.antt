@@ -1,58 +1,38 @@
 -- The least intake of the members' start versions is the one of documents 01 and 02.
-use Prim.Native.Nat.{ℕ, zero, suc, min, _≤_, _<_}
+use Prim.Native.Nat.{ℕ, zero, suc, _≤_, _<_}
 use native.Mathlib.Omega.{arith}
-use native.Mathlib.Decide.{ℕ-discrete, decLe}
+use native.Mathlib.Decide.{ℕ-discrete}
 use mathlib.Core.Path.{_≡_, refl, sym, _∙_, ap, subst}
 use mathlib.Core.Logic.{_⊎_, inl, inr}
 use mathlib.Core.Bool.{cond}
-use mathlib.Core.List.{List, [], _∷_, map, List·Memᴰ, List·Memᴰ·head, List·Memᴰ·tail, List·Memᴰ·cases-cons, List·Memᴰ·eq-of-singleton}
+use mathlib.Core.List.{List, [], _∷_, map, List·Memᴰ, List·Memᴰ·head}
 use lib.ListN.{length}
 use Rattle.rules.specs.Trail.{Trail}
 use Rattle.rules.specs.Start.{Enters, IsIntake, startOf, intakeOf}
 use Rattle.rules.specs.Marks.{seeded}
-use Rattle.rules.specs.Members.{earliest}
+use Rattle.rules.specs.Members.{OfAny, IsEarliest, earliest}
 use Rattle.rules.specs.Forward.{startsOf, forwardIntake}
+use Rattle.rules.proofs.Members.{mem-map, earliest-one, earliest-is}
 use Rattle.rules.proofs.Intake.{ByCase, by-cases, intakeOf-is}
 use Rattle.soundness.specs.Facts.{RowFacts}
 use Rattle.closure.specs.Arcs.{Marked, AllBelow}
 use Rattle.closure.proofs.Intake.{intake-start, intake-last}
 use Rattle.closure.proofs.Closed.{marked-seeded, seeded-marked}
-use Rattle.closure.proofs.Forward.{starts-below}
+use Rattle.closure.proofs.Start.{start-in}
 use Rattle.trace.specs.Intake.{entersBy, lastIntake, Least, LeastIntake}
 
--- the earliest of a list that has some stands in it, and none is before it
-module _ (g : ℕ → ℕ) where
-  earliest-one : (s : ℕ) (ss : List ℕ) → (v : ℕ) × List·Memᴰ v (s ∷ ss) × (earliest (map g (s ∷ ss)) ≡ g v)
-  earliest-one s [] = (s, List·Memᴰ·head refl, refl)
-  earliest-one s (z ∷ ss) = go (earliest (map g (z ∷ ss))) (earliest-one z ss)
-    where
-      go : (e : ℕ) → (v : ℕ) × List·Memᴰ v (z ∷ ss) × (e ≡ g v) → (v : ℕ) × List·Memᴰ v (s ∷ (z ∷ ss)) × (min (g s) e ≡ g v)
-      go e (v, k, q) = by (decLe (g s) e)
-        where
-          by : Dec (g s ≤ e) → (v : ℕ) × List·Memᴰ v (s ∷ (z ∷ ss)) × (min (g s) e ≡ g v)
-          by (yes l) = (s, List·Memᴰ·head refl, omega arith)
-          by (no l) = (v, List·Memᴰ·tail k, omega arith)
+-- the least of b and of what f gives is the earliest of what g gives for the members: both give the same, and none is above b
+least-earliest : (g : ℕ → ℕ) (P : ℕ → Type 0) (f : ℕ → ℕ) (b r : ℕ) (us : List ℕ) → Least P f b r → ((v : ℕ) → P v → OfAny us (λ u i. i ≡ g u) (f v))
+    → ((u : ℕ) → List·Memᴰ u us → (g u ≤ b) × ((v : ℕ) × P v × (f v ≡ g u))) → (u : ℕ) → List·Memᴰ u us → r ≡ earliest (map g us)
+least-earliest g P f b r us o out into u k =
+    earliest-one {us = us} {I = λ w i. i ≡ g w} (IsEarliest.least (one (o .is-one)) (λ j z. omega (arith, low (z .0) (z .1), z .2))) (earliest-is g us)
+  where
+    low : (w : ℕ) → List·Memᴰ w us → r ≤ g w
+    low w m = let z = into w m .1 in subst (λ x. r ≤ x) (z .2) (o .least (z .0) (z .1))
 
-  earliest-low : (s : ℕ) (ss : List ℕ) (v : ℕ) → List·Memᴰ v (s ∷ ss) → earliest (map g (s ∷ ss)) ≤ g v
-  earliest-low s [] v k = let q = List·Memᴰ·eq-of-singleton k in rw q (omega arith)
-  earliest-low s (z ∷ ss) v k = go (earliest (map g (z ∷ ss))) (λ y. earliest-low z ss v y) (List·Memᴰ·cases-cons k)
-    where
-      go : (e : ℕ) → (List·Memᴰ v (z ∷ ss) → e ≤ g v) → (v ≡ s) ⊎ List·Memᴰ v (z ∷ ss) → min (g s) e ≤ g v
-      go e r (inl q) = rw q (omega arith)
-      go e r (inr y) = omega (arith, r y)
-
-  -- so it is the least of them and a number that is not below any
-  least-earliest : (P : ℕ → Type 0) (f : ℕ → ℕ) (b r s : ℕ) (ss : List ℕ) → Least P f b r → ((v : ℕ) → f v ≡ g v) → ((v : ℕ) → P v → List·Memᴰ v (s ∷ ss))
-      → ((v : ℕ) → List·Memᴰ v (s ∷ ss) → P v × (g v ≤ b)) → r ≡ earliest (map g (s ∷ ss))
-  least-earliest P f b r s ss o same out into =
-      let z = earliest-one s ss in
-      let e = z .2 in
-      let i = into (z .0) (z .1) in
-      omega (arith, e, o .least (z .0) (i .0), same (z .0), i .1, low (o .is-one))
-    where
-      low : (r ≡ b) ⊎ ((v : ℕ) × P v × (r ≡ f v)) → earliest (map g (s ∷ ss)) ≤ r
-      low (inl q) = omega (arith, earliest-low s ss s (List·Memᴰ·head refl), into s (List·Memᴰ·head refl) .1)
-      low (inr (v, p, q)) = omega (arith, earliest-low s ss v (out v p), same v)
+    one : (r ≡ b) ⊎ ((v : ℕ) × P v × (r ≡ f v)) → OfAny us (λ w i. i ≡ g w) r
+    one (inl q) = (u, k, omega (arith, low u k, into u k .0))
+    one (inr (v, p, q)) = let z = out v p in (z .0, z .1, q ∙ z .2)
 
 module _ (T : Trail) (f : RowFacts T) (t : ℕ) where
   module _ (s : ℕ) where
@@ -81,13 +61,25 @@ module _ (T : Trail) (f : RowFacts T) (t : ℕ) where
         go (IsIntake.greatest k e q _) = omega (arith, f .edge k (e .0) .time-last)
         go (IsIntake.start _ q) = omega (arith, f .version s h .start-end, f .version s h .end-last)
 
-  pub intake-of-starts : (us : List ℕ) → AllBelow (T .counts .entities) us → (r : ℕ)
-      → LeastIntake (T .version) (T .edge) t (T .counts .edges) (seeded (T .counts .versions) (startsOf T us t)) (T .counts .last) r
-      → (length us ≡ 0 → ⊥) → r ≡ forwardIntake T us t
-  unfolding forwardIntake
-  intake-of-starts [] h r o z = absurd (z refl)
-  intake-of-starts (u ∷ us) h r o z =
-      let n = T .counts .versions in
-      let ss = startsOf T (u ∷ us) t in
-      least-earliest (λ s. intakeOf T s t) (Marked (seeded n ss)) _ (T .counts .last) r (startOf T u t) (startsOf T us t) o lastIntake-is (seeded-marked n ss)
-      (λ v k. let l = starts-below T f (u ∷ us) t h v k in (marked-seeded n ss v l k, intake-by-last v l))
+  module _ (us : List ℕ) (h : AllBelow (T .counts .entities) us) where
+    abbrev marks : List ℕ
+    marks = seeded (T .counts .versions) (startsOf T us t)
+
+    marked-start : (u : ℕ) → List·Memᴰ u us → (intakeOf T (startOf T u t) t ≤ T .counts .last) × ((v : ℕ) × Marked marks v × (lastIntake (T .version) (T .edge) v t (T .counts .edges) ≡ intakeOf T (startOf T u t) t))
+    marked-start u k =
+        let s = startOf T u t in
+        let l = start-in T f u t (h u k) in
+        (intake-by-last s l, (s, marked-seeded (T .counts .versions) (startsOf T us t) s l (mem-map (λ w. startOf T w t) us s .1 (u, k, refl)), lastIntake-is s))
+
+    of-member : (v : ℕ) → Marked marks v → OfAny us (λ u i. i ≡ intakeOf T (startOf T u t) t) (lastIntake (T .version) (T .edge) v t (T .counts .edges))
+    of-member v o =
+        let z = mem-map (λ u. startOf T u t) us v .0 (seeded-marked (T .counts .versions) (startsOf T us t) v o) in
+        (z .0, z .1, lastIntake-is v ∙ ap (λ s. intakeOf T s t) (z .2))
+
+    pub intake-of-starts : (r : ℕ) → LeastIntake (T .version) (T .edge) t (T .counts .edges) marks (T .counts .last) r → (length us ≡ 0 → ⊥) → r ≡ forwardIntake T us t
+    unfolding forwardIntake
+    intake-of-starts r o z = go us refl
+      where
+        go : (vs : List ℕ) → us ≡ vs → r ≡ earliest (map (λ u. intakeOf T (startOf T u t) t) us)
+        go [] q = absurd (z (ap length q))
+        go (u ∷ vs) q = least-earliest (λ u. intakeOf T (startOf T u t) t) (Marked marks) _ (T .counts .last) r us o of-member marked-start u (rw q (List·Memᴰ·head refl))

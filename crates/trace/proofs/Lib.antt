@@ -13,6 +13,15 @@ pub mod EntityMarks
 pub mod Buffers
 pub mod BackAnswer
 pub mod OnAnswer
--- the start version and the intake
+-- the start version, and those of the members of a list
 pub mod StartLoop
-pub mod IntakeLoop
+pub mod MemberChecks
+pub mod StartsLoop
+-- the intake
+pub mod Least
+pub mod Pending
+pub mod EnteringLoop
+pub mod Entering
+pub mod EarliestStart
+pub mod EarliestIntake
+pub mod IntakeIs

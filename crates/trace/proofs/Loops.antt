@@ -81,7 +81,17 @@ module _ (arcs : List Arc) (n : ℕ) (m₀ : List ℕ) (j : ℕ) (m : List ℕ) 
   unfolding passes
   passes-end l = let z : j ≡ 0 = omega arith in subst (λ x. passes x arcs m ≡ passes n arcs m₀) z i
 
--- a cleared buffer with one mark, and a first pass from there
+-- a first pass from the marks m, then later ones
+module _ (n : ℕ) (xs ys : List Arc) (m m₁ : List ℕ) (c : Bool) (f : Followed xs m c m₁) where
+  pub later-passes : (m₂ : List ℕ) → m₂ ≡ passes n ys m₁ → m₂ ≡ passes n ys (pass xs m)
+  later-passes m₂ r = r ∙ ap (passes n ys) (f .marks)
+
+  pub no-later-pass : ((a : Arc) → List·Memᴰ a ys → List·Memᴰ a xs) → c ≡ false → m₁ ≡ passes n ys (pass xs m)
+  no-later-pass i h =
+      let e = adds-none xs m c m₁ f h in
+      later-passes m₁ (e ∙ sym (passes-still xs m (sym (f .changed) ∙ h) ys i n) ∙ ap (passes n ys) (sym e))
+
+-- the same from a cleared buffer with one mark
 module _
     (n s : ℕ)
     (xs ys : List Arc)
@@ -96,10 +106,8 @@ module _
     unfolding seeded
     begun = q ∙ ap (λ m. set m s 1) (p ∙ ap (λ j. replicate j 0) (sym l))
 
-    pub later-passes : (m : List ℕ) → m ≡ passes n ys m₃ → m ≡ passes n ys (pass xs (seeded n (s ∷ [])))
-    later-passes m r = r ∙ ap (passes n ys) (f .marks ∙ ap (pass xs) begun)
+    pub later-from-one : (m : List ℕ) → m ≡ passes n ys m₃ → m ≡ passes n ys (pass xs (seeded n (s ∷ [])))
+    later-from-one m r = later-passes n xs ys m₂ m₃ c f m r ∙ ap (λ x. passes n ys (pass xs x)) begun
 
-    pub no-later-pass : ((a : Arc) → List·Memᴰ a ys → List·Memᴰ a xs) → c ≡ false → m₃ ≡ passes n ys (pass xs (seeded n (s ∷ [])))
-    no-later-pass i h =
-        let e = adds-none xs m₂ c m₃ f h in
-        later-passes m₃ (e ∙ sym (passes-still xs m₂ (sym (f .changed) ∙ h) ys i n) ∙ ap (passes n ys) (sym e))
+    pub none-from-one : ((a : Arc) → List·Memᴰ a ys → List·Memᴰ a xs) → c ≡ false → m₃ ≡ passes n ys (pass xs (seeded n (s ∷ [])))
+    none-from-one i h = no-later-pass n xs ys m₂ m₃ c f i h ∙ ap (λ x. passes n ys (pass xs x)) begun

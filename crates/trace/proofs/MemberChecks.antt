@@ -32,7 +32,7 @@ module _ (e : ℕ) (us : List ℕ) (i : ℕ) (p : anyUndeclared e (drop i us) �
 
   pub undeclared-end : length us ≤ i → false ≡ anyUndeclared e us
   unfolding anyUndeclared
-  undeclared-end l = ap (anyUndeclared e) (sym (drop-of-length-le us i l)) ∙ p
+  undeclared-end l = ap (anyUndeclared e) (sym (drop-of-length-le us l)) ∙ p
 
 -- a check for each member is one check
 one-check : (c : Counts) (us : List ℕ) (cs : List Check) → firstOf (undeclaredChecks c us ++ cs) ≡ firstOf (check (anyUndeclared (c .entities) us) Undeclared ∷ cs)

@@ -1,67 +1,88 @@
--- The answer and the buffers of a forward trace are those of document 01.
+-- The answer and the buffers of a forward trace are those of documents 01 and 02.
 use Prim.Native.Nat.{ℕ}
-use mathlib.Core.Path.{_≡_, sym, _∙_, ap}
-use mathlib.Core.List.{List, [], _++_}
-use lib.ListN.{take, drop}
+use native.Mathlib.Omega.{arith}
+use mathlib.Core.Path.{_≡_, refl, sym, _∙_, ap, subst}
+use mathlib.Core.List.{List, [], _∷_, _++_}
+use lib.ListN.{length, take, drop}
+use lib.Seq.{length-take-le}
 use Rattle.refusals.specs.declared.Refusal.{Refusal}
 use Rattle.refusals.specs.declared.Checked.{Checked}
 use Rattle.refusals.specs.declared.Checked.the-variants.{Passed, Refused}
 use Rattle.refusals.specs.Refusals.{firstOf, refusalNo}
 use Rattle.rows.specs.declared.Counts.{Counts}
-use Rattle.rows.specs.declared.VersionNo.{VersionNo}
 use Rattle.rows.specs.Rows.{versionAt, edgeAt}
 use Rattle.rules.specs.Trail.{Trail, tables, trailOf}
 use Rattle.rules.specs.Start.{startOf}
+use Rattle.rules.specs.Marks.{seeded}
 use Rattle.rules.specs.Backward.{traceChecks}
-use Rattle.rules.specs.Forward.{forwardWork, forwardEntities, forwardIntake, forwardOf, forwardTrace}
+use Rattle.rules.specs.Forward.{startsOf, forwardWork, forwardEntities, forwardIntake, forwardOf, forwardTrace}
 use Rattle.closure.proofs.Forward.{length-forwardWork}
-use Rattle.closure.proofs.Traces.{passed-entity}
-use Rattle.closure.proofs.Checked.{passed-rows}
+use Rattle.closure.proofs.Checked.{passed-rows, passed-entities, versions-fit, edges-fit, marks-fit}
 use Rattle.closure.proofs.TraceCalls.{forwardOf-passed}
 use Rattle.trace.specs.TraceArcs.{markedOn}
 use Rattle.trace.specs.Owners.{EntitiesMarked}
-use Rattle.trace.specs.Intake.{lastIntake}
-use Rattle.trace.proofs.StartLoop.{start-any}
-use Rattle.trace.proofs.IntakeLoop.{lastIntake-is}
+use Rattle.trace.specs.Starts.{Traceable, VersionsMarked}
+use Rattle.trace.specs.Intake.{LeastIntake}
+use Rattle.trace.proofs.IntakeIs.{intake-of-starts}
 use Rattle.trace.proofs.OnMarks.{work-on}
-use Rattle.trace.proofs.Buffers.{left-work, left-marks}
+use Rattle.trace.proofs.Buffers.{left-work, left-marks, over-marks}
 
-module _ (c : Counts) (es vs ds : List ℕ) (x t : ℕ) (work marks : List ℕ) where
-  abbrev checked : Checked
-  checked = firstOf (traceChecks c (tables es vs ds) x work marks)
-
+module _ (c : Counts) (es vs ds us : List ℕ) (t : ℕ) where
   abbrev T : Trail
   T = trailOf c (tables es vs ds)
 
+  -- the start versions do not depend on the edges
+  started : (m m₀ : List ℕ) → c .versions ≡ length m₀ → m ≡ seeded (length m₀) (startsOf (trailOf c (tables es vs [])) us t)
+      → m ≡ seeded (c .versions) (startsOf T us t)
+  unfolding startOf
+  started m m₀ l q = rw (← l) at q
+
+  -- where the checks pass, in buffers with a byte for each row
+  module _ (p : Traceable c (tables es vs ds) us) (m₀ m : List ℕ) (l : c .versions ≡ length m₀) (q : m ≡ seeded (length m₀) (startsOf (trailOf c (tables es vs [])) us t)) where
+    pub earliest-found : (r : ℕ) → LeastIntake (versionAt vs) (edgeAt ds) t (c .edges) m (c .last) r → (length us ≡ 0 → ⊥) → r ≡ forwardIntake T us t
+    earliest-found r o = intake-of-starts T (p .rows) t us (p .declared) r (subst (λ x. LeastIntake (versionAt vs) (edgeAt ds) t (c .edges) x (c .last) r) (started m m₀ l q) o)
+
+    pub versions-marked : (i : ℕ) → i ≡ forwardIntake T us t → (m′ : List ℕ) → m′ ≡ markedOn (versionAt vs) (edgeAt ds) (c .versions) (c .edges) m
+        → VersionsMarked T us t i m′
+    versions-marked i e m′ z = record {
+      intake = e;
+      marks = z ∙ ap (markedOn (versionAt vs) (edgeAt ds) (c .versions) (c .edges)) (started m m₀ l q) ∙ work-on T (p .rows) us t (p .declared);
+    }
+
+-- an empty list
+pub none-found : (T : Trail) (us : List ℕ) (t : ℕ) → length us ≡ 0 → 0 ≡ forwardIntake T us t
+unfolding forwardIntake
+none-found T [] t l = refl
+none-found T (u ∷ us) t l = absurd (omega arith)
+
+module _ (c : Counts) (es vs ds us : List ℕ) (t : ℕ) (work marks : List ℕ) where
+  abbrev checked : Checked
+  checked = firstOf (traceChecks c (tables es vs ds) us work marks)
+
   pub forward-refused : (k : Checked) (r : Refusal) (n : ℕ) → k ≡ checked → k ≡ Refused r → n ≡ refusalNo r
-      → forwardTrace (record { refusal = n; count = 0; intake = 0 }) work marks ≡ forwardOf c (tables es vs ds) x t work marks
+      → forwardTrace (record { refusal = n; count = 0; intake = 0 }) work marks ≡ forwardOf c (tables es vs ds) us t work marks
   unfolding forwardOf
   forward-refused k r n p q e =
       let z : checked ≡ Refused r = sym p ∙ q in
       rw (z, e)
 
   module _ (p : checked ≡ Passed) where
-    module _
-        (s : VersionNo)
-        (part marks′ : List ℕ)
-        (n g : ℕ)
-        (qs : s .0 ≡ startOf (trailOf c (tables es vs [])) x t)
-        (qw : part ≡ markedOn (versionAt vs) (edgeAt ds) (c .versions) (c .edges) (s .0))
-        (qm : EntitiesMarked c (versionAt vs) (take (c .versions) (part ++ drop (c .versions) work)) marks n marks′)
-        (qg : g ≡ lastIntake (versionAt vs) (edgeAt ds) (s .0) t (c .edges))
-      where
-        marked : part ≡ forwardWork T x t
-        marked =
-            qw
-            ∙ ap (λ v. markedOn (versionAt vs) (edgeAt ds) (c .versions) (c .edges) v) (qs ∙ start-any c es vs ds x t)
-            ∙ work-on T (passed-rows c (tables es vs ds) x work marks p) x t (passed-entity c (tables es vs ds) x work marks p)
+    pub traceable : Traceable c (tables es vs ds) us
+    traceable = record {
+      versions-in = versions-fit c (tables es vs ds) us work marks p;
+      edges-in = edges-fit c (tables es vs ds) us work marks p;
+      rows = passed-rows c (tables es vs ds) us work marks p;
+      declared = passed-entities c (tables es vs ds) us work marks p;
+    }
 
-        pub forward-passed : forwardTrace (record { refusal = 0; count = n; intake = g }) (part ++ drop (c .versions) work) marks′ ≡ forwardOf c (tables es vs ds) x t work marks
-        unfolding forwardEntities forwardIntake
-        forward-passed =
-            let l = length-forwardWork T x t in
-            let w = left-work T (forwardWork T x t) work l part marked in
-            let m = left-marks T (forwardWork T x t) work l part marked marks marks′ n qm in
-            let f = passed-rows c (tables es vs ds) x work marks p in
-            let z : g ≡ forwardIntake T x t = qg ∙ ap (λ v. lastIntake (versionAt vs) (edgeAt ds) v t (c .edges)) (qs ∙ start-any c es vs ds x t) ∙ lastIntake-is T f (startOf T x t) t in
-            (λ i. forwardTrace (record { refusal = 0; count = m .count i; intake = z i }) (w i) (m .marks i)) ∙ sym (forwardOf-passed c (tables es vs ds) x t work marks p)
+    pub forward-passed : (part seen marks′ : List ℕ) (n i : ℕ) → VersionsMarked (trailOf c (tables es vs ds)) us t i part → length seen ≡ length (take (c .entities) marks)
+        → EntitiesMarked c (versionAt vs) (take (c .versions) (part ++ drop (c .versions) work)) (seen ++ drop (c .entities) marks) n marks′
+        → forwardTrace (record { refusal = 0; count = n; intake = i }) (part ++ drop (c .versions) work) marks′ ≡ forwardOf c (tables es vs ds) us t work marks
+    unfolding forwardEntities
+    forward-passed part seen marks′ n i v l q =
+        let X = trailOf c (tables es vs ds) in
+        let k = length-forwardWork X us t in
+        let w = left-work X (forwardWork X us t) work k part (v .marks) in
+        let m = over-marks c (versionAt vs) (forwardWork X us t) seen marks marks′ n (l ∙ length-take-le (c .entities) marks (marks-fit c (tables es vs ds) us work marks p))
+            (left-marks X (forwardWork X us t) work k part (v .marks) (seen ++ drop (c .entities) marks) marks′ n q) in
+        (λ x. forwardTrace (record { refusal = 0; count = m .count x; intake = v .intake x }) (w x) (m .marks x)) ∙ sym (forwardOf-passed c (tables es vs ds) us t work marks p)

@@ -1,18 +1,17 @@
 -- The work buffer of a forward trace is the one of document 01.
-use Prim.Native.Nat.{ℕ, _<_}
+use Prim.Native.Nat.{ℕ}
 use mathlib.Core.Path.{_≡_}
 use mathlib.Core.Logic.{_↔_}
 use mathlib.Core.Bool.{true}
-use mathlib.Core.List.{[], _∷_, List·Memᴰ, List·Memᴰ·eq-of-singleton}
+use mathlib.Core.List.{List, List·Memᴰ}
 use Rattle.rules.specs.Trail.{Trail}
-use Rattle.rules.specs.Start.{startOf}
-use Rattle.rules.specs.Marks.{Arc, arc}
-use Rattle.rules.specs.Forward.{forwardArcs, forwardWork}
+use Rattle.rules.specs.Marks.{Arc, arc, seeded}
+use Rattle.rules.specs.Forward.{forwardArcs, startsOf, forwardWork}
 use Rattle.soundness.specs.Facts.{RowFacts}
+use Rattle.closure.specs.Arcs.{AllBelow}
 use Rattle.closure.proofs.Closed.{closed-same}
-use Rattle.closure.proofs.Start.{start-in}
 use Rattle.closure.proofs.TraceArcs.{hasPrevious, edgesOn-collected, stepsOn-collected}
-use Rattle.closure.proofs.Forward.{forwardArcs-ends}
+use Rattle.closure.proofs.Forward.{forwardArcs-ends, starts-below}
 use Rattle.trace.specs.Followed.{up}
 use Rattle.trace.specs.TraceArcs.{stepOn, targetOn, edgeOn, firstOn, laterOn, markedOn}
 use Rattle.trace.proofs.Members.{up-iff, arcs-of}
@@ -26,10 +25,10 @@ module _ (T : Trail) (f : RowFacts T) where
       rw (edgesOn-collected (T .edge) (T .counts .edges), stepsOn-collected (T .version) (T .counts .versions))
       (arcs-of up up-iff x (λ k. true) (hasPrevious (T .version)) (λ k. arc (T .edge k .from .0) (T .edge k .to .0)) (λ v. arc (T .version v .previous .0) v) (T .counts .edges) (T .counts .versions) (λ k. T .edge k .to .0) (λ k l. f .edge k l .to-in))
 
-  pub work-on : (u t : ℕ) → u < T .counts .entities
-      → markedOn (T .version) (T .edge) (T .counts .versions) (T .counts .edges) (startOf T u t) ≡ forwardWork T u t
+  pub work-on : (us : List ℕ) (t : ℕ) → AllBelow (T .counts .entities) us
+      → markedOn (T .version) (T .edge) (T .counts .versions) (T .counts .edges) (seeded (T .counts .versions) (startsOf T us t)) ≡ forwardWork T us t
   unfolding markedOn forwardWork
-  work-on u t h =
-      closed-same (T .counts .versions) (forwardArcs T) (startOf T u t ∷ []) (forwardArcs-ends T f) (λ b m. rw (List·Memᴰ·eq-of-singleton m) (start-in T f u t h)) _ _
+  work-on us t h =
+      closed-same (T .counts .versions) (forwardArcs T) (startsOf T us t) (forwardArcs-ends T f) (starts-below T f us t h) _ _
       (λ x. members x .0)
       (λ x. members x .1)

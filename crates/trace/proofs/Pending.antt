@@ -29,7 +29,7 @@ ones-none m l i h = omega (arith, ones-unmark m i h)
 ones-zeros : (n : ℕ) → ones (replicate n 0) ≡ 0
 unfolding ones
 ones-zeros zero = refl
-ones-zeros (suc n) = ones-zeros n
+ones-zeros (suc n) = omega (arith, ones-zeros n)
 
 pub ones-seeded : (n : ℕ) (ss : List ℕ) → ones (seeded n ss) ≤ length ss
 unfolding seeded

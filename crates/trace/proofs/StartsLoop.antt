@@ -15,19 +15,19 @@ use Rattle.rules.specs.Trail.{Trail, tables, trailOf}
 use Rattle.rules.specs.Start.{startOf}
 use Rattle.rules.specs.Marks.{seeded}
 use Rattle.rules.specs.Forward.{startsOf}
+use Rattle.rules.proofs.Members.{mem-map}
 use Rattle.closure.proofs.Closed.{length-seeded, marked-seeded, seeded-marked}
 use Rattle.closure.proofs.Marks.{set-marked}
-use Rattle.closure.proofs.Members.{mem-starts}
 use Rattle.trace.specs.Followed.{MarkedIf}
 use Rattle.trace.specs.Starts.{StartMarked}
 
 -- one member
 module _ (T : Trail) (t u : ℕ) (work seen : List ℕ) (r : Bool) (seen′ : List ℕ) (w : MarkedIf true u seen r seen′) where
   pub start-seen : r ≡ false → StartMarked T t u work seen work seen′
-  start-seen h = record { member = w .marks; start = rw (not-false _ (sym (w .changed) ∙ h)) }
+  start-seen h = record { member = w .marks; start = rw (not-false (eqb (getD seen u 0) 1) (sym (w .changed) ∙ h)) }
 
   pub start-new : (s : VersionNo) → s .0 ≡ startOf T u t → (work′ : List ℕ) → work′ ≡ set work (s .0) 1 → r ≡ true → StartMarked T t u work seen work′ seen′
-  start-new s e work′ q h = record { member = w .marks; start = rw (not-true _ (sym (w .changed) ∙ h)) (q ∙ ap (λ v. set work v 1) e) }
+  start-new s e work′ q h = record { member = w .marks; start = rw (not-true (eqb (getD seen u 0) 1) (sym (w .changed) ∙ h)) (q ∙ ap (λ v. set work v 1) e) }
 
 -- a seed that is there already adds no mark
 seeded-again : (n : ℕ) (ss : List ℕ) (s : ℕ) → List·Memᴰ s ss → set (seeded n ss) s 1 ≡ seeded n ss
@@ -54,12 +54,12 @@ module _ (T : Trail) (t n e : ℕ) where
       go false q = refl
       go true q =
           let k = seeded-marked e us u (ap (λ m. getD m u 0) (sym (i .members)) ∙ eqb-true _ _ q) in
-          rw (i .starts) (sym (seeded-again n (startsOf T us t) (startOf T u t) (mem-starts T us t (startOf T u t) .1 (u, k, refl))))
+          rw (i .starts) (sym (seeded-again n (startsOf T us t) (startOf T u t) (mem-map (λ v. startOf T v t) us (startOf T u t) .1 (u, k, refl))))
 
   pub marks-start : (us work seen work₀ seen₀ : List ℕ) → work ≡ replicate (length work₀) 0 → seen ≡ replicate (length seen₀) 0 → n ≡ length work₀ → e ≡ length seen₀
       → Marks T t n e (drop (length us) us) work seen
   unfolding seeded
-  marks-start us work seen work₀ seen₀ p q l h = rw (drop-of-length-le us (length us) (omega arith)) (record { starts = rw l p; members = rw h q })
+  marks-start us work seen work₀ seen₀ p q l h = rw (drop-of-length-le us {i = length us} (omega arith)) (record { starts = rw l p; members = rw h q })
 
   module _ (us : List ℕ) (i : ℕ) (work seen : List ℕ) (m : Marks T t n e (drop i us) work seen) where
     pub marks-next : 0 < i → i ≤ length us → (work′ seen′ : List ℕ) → StartMarked T t (getD us (i - 1) 0) work seen work′ seen′
@@ -71,5 +71,7 @@ module _ (T : Trail) (t n e : ℕ) where
             rw (drop-cons us j 0 (omega arith))
             (marks-cons (drop (suc j) us) work seen (subst (λ k. Marks T t n e (drop k us) work seen) z m) (getD us j 0) work′ seen′ w′)
 
-    pub marks-end : i ≤ 0 → work ≡ seeded n (startsOf T us t)
-    marks-end l = let z : i ≡ 0 = omega arith in subst (λ k. Marks T t n e (drop k us) work seen) z m .starts
+    pub marks-end : (n′ : ℕ) → n ≡ n′ → i ≤ 0 → work ≡ seeded n′ (startsOf T us t)
+    marks-end n′ q l =
+        let z : i ≡ 0 = omega arith in
+        subst (λ k. Marks T t n e (drop k us) work seen) z m .starts ∙ ap (λ k. seeded k (startsOf T us t)) q

@@ -8,6 +8,7 @@ mod owners;
 mod start;
 
 use back::mark_back;
+use checks::any_undeclared;
 use checks::check_trace;
 use intake::intake;
 use on::mark_on;
@@ -17,13 +18,17 @@ use rows::Counts;
 use rows::EntityNo;
 use rules::BackwardAnswer;
 use rules::ForwardAnswer;
+use start::mark_starts;
 use start::start_version;
 ghost use mathlib.Core.Path.{_≡_};
+ghost use mathlib.Core.List.{[], _∷_};
+ghost use lib.ListN.{length};
 ghost use Rattle.refusals.specs.declared.Checked.the-variants.{Passed};
 ghost use Rattle.refusals.specs.Refusals.{firstOf};
-ghost use Rattle.rules.specs.Trail.{tables};
+ghost use Rattle.rules.specs.Trail.{tables, trailOf};
 ghost use Rattle.rules.specs.Backward.{traceChecks, backwardTrace, backwardOf};
 ghost use Rattle.rules.specs.Forward.{forwardTrace, forwardOf};
+ghost use Rattle.trace.specs.Starts.{Traceable, VersionsMarked};
 
 // The backward trace of entity x, where the checks pass.
 fn trace_back(
@@ -36,7 +41,7 @@ fn trace_back(
     work: &mut [u8],
     marks: &mut [u8],
 ) -> BackwardAnswer
-    requires { ⌜ firstOf (traceChecks c (tables (now entities) (now versions) (now edges)) (x .0) (now work) (now marks)) ≡ Passed ⌝ }
+    requires { ⌜ firstOf (traceChecks c (tables (now entities) (now versions) (now edges)) (x .0 ∷ []) (now work) (now marks)) ≡ Passed ⌝ }
     ensures { λ r. ⌜ backwardTrace r (now (work .exit)) (now (marks .exit))
         ≡ backwardOf c (tables (now (entities .entry)) (now (versions .entry)) (now (edges .entry))) (x .0) time (now (work .entry))
         (now (marks .entry)) ⌝ }
@@ -63,7 +68,8 @@ pub fn backward(
         ≡ backwardOf counts (tables (now (entities .entry)) (now (versions .entry)) (now (edges .entry))) entity time (now (work .entry))
         (now (marks .entry)) ⌝ }
 {
-    let checked = check_trace(counts, entities, versions, edges, entity, work, marks);
+    let undeclared = counts.entities <= entity;
+    let checked = check_trace(counts, entities, versions, edges, undeclared, work, marks);
     match checked {
         Checked::Refused(r) => BackwardAnswer {
             refusal: refusals::refusal_number(r),
@@ -82,26 +88,55 @@ pub fn backward(
     }
 }
 
-// The forward trace of entity x, where the checks pass.
+// The versions that a forward trace of the members marks, in a buffer with a byte for each, and the intake.
+fn mark_versions(
+    c: Counts,
+    entities: &[u32],
+    versions: &[u32],
+    edges: &[u32],
+    members: &[u32],
+    time: u32,
+    work: &mut [u8],
+    seen: &mut [u8],
+) -> u32
+    requires { ⌜ Traceable c (tables (now entities) (now versions) (now edges)) (now members) × (c .versions ≡ length (now work)) ⌝ }
+    ensures { λ r. ⌜ VersionsMarked (trailOf c (tables (now (entities .entry)) (now (versions .entry)) (now (edges .entry)))) (now (members .entry)) time r
+        (now (work .exit)) ⌝ }
+{
+    let i = intake(c, entities, versions, edges, members, time, work, seen);
+    mark_starts(c, entities, versions, members, time, work, seen);
+    mark_on(c, versions, edges, work);
+    i
+}
+
+// The forward trace of the members, where the checks pass. Until the entities are marked, their bytes say which members were seen.
 fn trace_on(
     c: Counts,
     entities: &[u32],
     versions: &[u32],
     edges: &[u32],
-    x: EntityNo,
+    members: &[u32],
     time: u32,
     work: &mut [u8],
     marks: &mut [u8],
 ) -> ForwardAnswer
-    requires { ⌜ firstOf (traceChecks c (tables (now entities) (now versions) (now edges)) (x .0) (now work) (now marks)) ≡ Passed ⌝ }
+    requires { ⌜ firstOf (traceChecks c (tables (now entities) (now versions) (now edges)) (now members) (now work) (now marks)) ≡ Passed ⌝ }
     ensures { λ r. ⌜ forwardTrace r (now (work .exit)) (now (marks .exit))
-        ≡ forwardOf c (tables (now (entities .entry)) (now (versions .entry)) (now (edges .entry))) (x .0) time (now (work .entry))
+        ≡ forwardOf c (tables (now (entities .entry)) (now (versions .entry)) (now (edges .entry))) (now (members .entry)) time (now (work .entry))
         (now (marks .entry)) ⌝ }
 {
-    let s = start_version(c, entities, versions, x, time);
-    let i = intake(versions, edges, c.edges, s, time);
     let n = c.versions as usize;
-    mark_on(c, versions, edges, &mut work[..n], s);
+    let e = c.entities as usize;
+    let i = mark_versions(
+        c,
+        entities,
+        versions,
+        edges,
+        members,
+        time,
+        &mut work[..n],
+        &mut marks[..e],
+    );
     let count = mark_entities(c, versions, work, marks);
     ForwardAnswer {
         refusal: 0,
@@ -110,22 +145,24 @@ fn trace_on(
     }
 }
 
-// The forward trace of an entity at a time, with the intake.
+// The forward trace of a list of entities at a time: the marks in the two buffers, how many entities are marked, and the
+// earliest intake.
 pub fn forward(
     counts: Counts,
     entities: &[u32],
     versions: &[u32],
     edges: &[u32],
-    entity: u32,
+    members: &[u32],
     time: u32,
     work: &mut [u8],
     marks: &mut [u8],
 ) -> ForwardAnswer
     ensures { λ r. ⌜ forwardTrace r (now (work .exit)) (now (marks .exit))
-        ≡ forwardOf counts (tables (now (entities .entry)) (now (versions .entry)) (now (edges .entry))) entity time (now (work .entry))
+        ≡ forwardOf counts (tables (now (entities .entry)) (now (versions .entry)) (now (edges .entry))) (now (members .entry)) time (now (work .entry))
         (now (marks .entry)) ⌝ }
 {
-    let checked = check_trace(counts, entities, versions, edges, entity, work, marks);
+    let undeclared = any_undeclared(counts.entities, members);
+    let checked = check_trace(counts, entities, versions, edges, undeclared, work, marks);
     match checked {
         Checked::Refused(r) => ForwardAnswer {
             refusal: refusals::refusal_number(r),
@@ -133,14 +170,7 @@ pub fn forward(
             intake: 0,
         },
         Checked::Passed => trace_on(
-            counts,
-            entities,
-            versions,
-            edges,
-            EntityNo(entity),
-            time,
-            work,
-            marks,
+            counts, entities, versions, edges, members, time, work, marks,
         ),
     }
 }

@@ -1,5 +1,6 @@
 -- `trace::backward` meets its contract. A refused call leaves the buffers as they are; another is `trace_back`.
 use borrow.Author.Needs.{needs}
+use Rattle.rules.specs.Backward.{traceChecks}
 use Rattle.closure.proofs.Checked.{checked-passed}
 use Rattle.trace.proofs.BackAnswer.{backward-refused}
 use Rattle.trace.proofs.backward.Statement.{statement}
@@ -18,6 +19,7 @@ enum-told : tie.Need-enum-told
 enum-told c = search needs
 
 trace-back-requires : tie.Need-trace-back-requires
+unfolding traceChecks
 trace-back-requires c κs = checked-passed _ _ _ _ _ _ (c .before .before .before .before .check-trace .ensures) (c .before .before .enum-told .given .1)
 
 same-length : tie.Need-same-length
@@ -27,6 +29,7 @@ same-length-2 : tie.Need-same-length-2
 same-length-2 c = search needs
 
 returns : tie.Need-returns
+unfolding traceChecks
 returns c = search backward-refused
 
 same-length-3 : tie.Need-same-length-3

@@ -1,16 +1,10 @@
--- `trace::on::mark_on` meets its contract. The buffer is cleared, marked and closed in turn; after a first pass that adds no mark later ones change nothing.
+-- `trace::on::mark_on` meets its contract. After a first pass that adds no mark later ones change nothing.
 use borrow.Author.Needs.{needs}
 use Rattle.trace.specs.TraceArcs.{markedOn}
 use Rattle.trace.proofs.Loops.{later-passes, no-later-pass}
 use Rattle.trace.proofs.OnArcs.{later-first}
 use Rattle.trace.proofs.on.mark_on.Statement.{statement}
 use Rattle.trace.proofs.on.mark_on.Tie as tie
-
-clear-requires : tie.Need-clear-requires
-clear-requires c κs = search needs
-
-mark-requires : tie.Need-mark-requires
-mark-requires c κs = search needs
 
 first-on-requires : tie.Need-first-on-requires
 first-on-requires c κs = search needs
@@ -34,4 +28,4 @@ returns-2 c = search (no-later-pass, later-first)
 
 pub mark-on-spec : {M : Type 1} → statement M
 mark-on-spec =
-    tie.close (tie.spec clear-requires mark-requires first-on-requires close-on-requires same-length returns same-length-2 returns-2)
+    tie.close (tie.spec first-on-requires close-on-requires same-length returns same-length-2 returns-2)
