@@ -21,7 +21,7 @@ use Rattle.closure.proofs.Checked.{passed-rows, passed-entities, versions-fit, 
 use Rattle.closure.proofs.TraceCalls.{forwardOf-passed}
 use Rattle.trace.specs.TraceArcs.{markedOn}
 use Rattle.trace.specs.Owners.{EntitiesMarked}
-use Rattle.trace.specs.Starts.{Traceable, VersionsMarked}
+use Rattle.trace.specs.Starts.{startMarks, Traceable, VersionsMarked}
 use Rattle.trace.specs.Intake.{LeastIntake}
 use Rattle.trace.proofs.IntakeIs.{intake-of-starts}
 use Rattle.trace.proofs.OnMarks.{work-on}
@@ -32,22 +32,24 @@ module _ (c : Counts) (es vs ds us : List ℕ) (t : ℕ) where
   T = trailOf c (tables es vs ds)
 
   -- the start versions do not depend on the edges
-  started : (m m₀ : List ℕ) → c .versions ≡ length m₀ → m ≡ seeded (length m₀) (startsOf (trailOf c (tables es vs [])) us t)
+  started : (m m₀ : List ℕ) → c .versions ≡ length m₀ → m ≡ startMarks (trailOf c (tables es vs [])) us t (length m₀)
       → m ≡ seeded (c .versions) (startsOf T us t)
-  unfolding startOf
+  unfolding startMarks startOf
   started m m₀ l q = rw (← l) at q
 
   -- where the checks pass, in buffers with a byte for each row
-  module _ (p : Traceable c (tables es vs ds) us) (m₀ m : List ℕ) (l : c .versions ≡ length m₀) (q : m ≡ seeded (length m₀) (startsOf (trailOf c (tables es vs [])) us t)) where
-    pub earliest-found : (r : ℕ) → LeastIntake (versionAt vs) (edgeAt ds) t (c .edges) m (c .last) r → (length us ≡ 0 → ⊥) → r ≡ forwardIntake T us t
-    earliest-found r o = intake-of-starts T (p .rows) t us (p .declared) r (subst (λ x. LeastIntake (versionAt vs) (edgeAt ds) t (c .edges) x (c .last) r) (started m m₀ l q) o)
+  pub earliest-found : Traceable c (tables es vs ds) us → (m₀ m : List ℕ) (r : ℕ) → c .versions ≡ length m₀
+      → m ≡ startMarks (trailOf c (tables es vs [])) us t (length m₀) → LeastIntake (versionAt vs) (edgeAt ds) t (c .edges) m (c .last) r
+      → (length us ≡ 0 → ⊥) → r ≡ forwardIntake T us t
+  earliest-found p m₀ m r l q o = intake-of-starts T (p .rows) t us (p .declared) r (subst (λ x. LeastIntake (versionAt vs) (edgeAt ds) t (c .edges) x (c .last) r) (started m m₀ l q) o)
 
-    pub versions-marked : (i : ℕ) → i ≡ forwardIntake T us t → (m′ : List ℕ) → m′ ≡ markedOn (versionAt vs) (edgeAt ds) (c .versions) (c .edges) m
-        → VersionsMarked T us t i m′
-    versions-marked i e m′ z = record {
-      intake = e;
-      marks = z ∙ ap (markedOn (versionAt vs) (edgeAt ds) (c .versions) (c .edges)) (started m m₀ l q) ∙ work-on T (p .rows) us t (p .declared);
-    }
+  pub versions-marked : Traceable c (tables es vs ds) us → (i : ℕ) → i ≡ forwardIntake T us t → (m₀ m₁ m m′ : List ℕ) → c .versions ≡ length m₀ → length m₁ ≡ length m₀
+      → m ≡ startMarks (trailOf c (tables es vs [])) us t (length m₁) → m′ ≡ markedOn (versionAt vs) (edgeAt ds) (c .versions) (c .edges) m
+      → VersionsMarked T us t i m′
+  versions-marked p i e m₀ m₁ m m′ l k q z = record {
+    intake = e;
+    marks = z ∙ ap (markedOn (versionAt vs) (edgeAt ds) (c .versions) (c .edges)) (started m m₁ (l ∙ sym k) q) ∙ work-on T (p .rows) us t (p .declared);
+  }
 
 -- an empty list
 pub none-found : (T : Trail) (us : List ℕ) (t : ℕ) → length us ≡ 0 → 0 ≡ forwardIntake T us t

@@ -4,12 +4,15 @@ use native.Mathlib.Nat.{le-of-suc-le-suc}
 use native.Mathlib.Omega.{arith}
 use mathlib.Core.Path.{_≡_, refl, sym, _∙_, ap}
 use mathlib.Core.Bool.{Bool, true, false, cond}
-use mathlib.Core.List.{List, [], _∷_}
+use mathlib.Core.List.{List, [], _∷_, map}
 use lib.ListN.{length, getD, set, replicate}
 use lib.Dec.{eqb}
 use borrow.Author.Tests.{eq-eqb}
+use Rattle.rules.specs.Trail.{Trail}
+use Rattle.rules.specs.Start.{startOf}
 use Rattle.rules.specs.Marks.{ones, seeded}
 use Rattle.closure.specs.Arcs.{Marked}
+use Rattle.trace.specs.Starts.{startMarks}
 
 pub ones-unmark : (m : List ℕ) (i : ℕ) → Marked m i → suc (ones (set m i 0)) ≡ ones m
 unfolding ones
@@ -31,7 +34,12 @@ unfolding ones
 ones-zeros zero = refl
 ones-zeros (suc n) = omega (arith, ones-zeros n)
 
-pub ones-seeded : (n : ℕ) (ss : List ℕ) → ones (seeded n ss) ≤ length ss
+ones-seeded : (g : ℕ → ℕ) (n : ℕ) (us : List ℕ) → ones (seeded n (map g us)) ≤ length us
 unfolding seeded
-ones-seeded n [] = omega (arith, ones-zeros n)
-ones-seeded n (s ∷ ss) = omega (arith, ones-seeded n ss, ones-mark (seeded n ss) s)
+ones-seeded g n [] = omega (arith, ones-zeros n)
+ones-seeded g n (u ∷ us) = omega (arith, ones-seeded g n us, ones-mark (seeded n (map g us)) (g u))
+
+-- the start versions are at most as many as the members
+pub ones-few : (T : Trail) (us : List ℕ) (t n : ℕ) (m : List ℕ) → m ≡ startMarks T us t n → ones m ≤ length us
+unfolding startMarks
+ones-few T us t n m q = rw q (ones-seeded (λ u. startOf T u t) n us)

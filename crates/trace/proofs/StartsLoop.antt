@@ -19,7 +19,7 @@ use Rattle.rules.proofs.Members.{mem-map}
 use Rattle.closure.proofs.Closed.{length-seeded, marked-seeded, seeded-marked}
 use Rattle.closure.proofs.Marks.{set-marked}
 use Rattle.trace.specs.Followed.{MarkedIf}
-use Rattle.trace.specs.Starts.{StartMarked}
+use Rattle.trace.specs.Starts.{startMarks, StartMarked}
 
 -- one member
 module _ (T : Trail) (t u : ℕ) (work seen : List ℕ) (r : Bool) (seen′ : List ℕ) (w : MarkedIf true u seen r seen′) where
@@ -71,7 +71,8 @@ module _ (T : Trail) (t n e : ℕ) where
             rw (drop-cons us j 0 (omega arith))
             (marks-cons (drop (suc j) us) work seen (subst (λ k. Marks T t n e (drop k us) work seen) z m) (getD us j 0) work′ seen′ w′)
 
-    pub marks-end : (n′ : ℕ) → n ≡ n′ → i ≤ 0 → work ≡ seeded n′ (startsOf T us t)
+    pub marks-end : (n′ : ℕ) → n ≡ n′ → i ≤ 0 → work ≡ startMarks T us t n′
+    unfolding startMarks
     marks-end n′ q l =
         let z : i ≡ 0 = omega arith in
         subst (λ k. Marks T t n e (drop k us) work seen) z m .starts ∙ ap (λ k. seeded k (startsOf T us t)) q

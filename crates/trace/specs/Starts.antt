@@ -9,7 +9,8 @@ use Rattle.rows.specs.declared.Counts.{Counts}
 use Rattle.rows.specs.Capacity.{versionCapacity, edgeCapacity}
 use Rattle.rules.specs.Trail.{Tables, Trail, trailOf}
 use Rattle.rules.specs.Start.{startOf}
-use Rattle.rules.specs.Forward.{forwardWork, forwardIntake}
+use Rattle.rules.specs.Marks.{seeded}
+use Rattle.rules.specs.Forward.{startsOf, forwardWork, forwardIntake}
 use Rattle.soundness.specs.Facts.{RowFacts}
 use Rattle.closure.specs.Arcs.{AllBelow}
 
@@ -24,6 +25,10 @@ pub record Traceable (c : Counts) (t : Tables) (us : List ℕ) : Type 0 where
   pub edges-in : c .edges ≤ edgeCapacity (t .edges)
   pub rows : RowFacts (trailOf c t)
   pub declared : AllBelow (c .entities) us
+
+-- n places, with the start versions of the members marked
+unfoldable pub startMarks : Trail → List ℕ → ℕ → ℕ → List ℕ
+startMarks T us t n = seeded n (startsOf T us t)
 
 -- member u is marked as seen, and its start version, where u was not seen before
 pub record StartMarked (T : Trail) (t u : ℕ) (work seen work′ seen′ : List ℕ) : Type 0 where

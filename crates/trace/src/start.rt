@@ -14,9 +14,7 @@ ghost use lib.ListN.{length};
 ghost use Rattle.rows.specs.Rows.{versionAt};
 ghost use Rattle.rules.specs.Trail.{tables, trailOf};
 ghost use Rattle.rules.specs.Start.{startFrom, startOf};
-ghost use Rattle.rules.specs.Marks.{seeded};
-ghost use Rattle.rules.specs.Forward.{startsOf};
-ghost use Rattle.trace.specs.Starts.{StartMarked};
+ghost use Rattle.trace.specs.Starts.{startMarks, StartMarked};
 
 // From version v through previous to the first with start ≤ t, in at most n steps.
 fn start_from(versions: &[u32], t: u32, n: u32, v: VersionNo) -> VersionNo
@@ -78,7 +76,7 @@ pub fn mark_starts(
     seen: &mut [u8],
 )
     ensures { λ _. ⌜ now (work .exit)
-        ≡ seeded (length (now (work .entry))) (startsOf (trailOf c (tables (now (entities .entry)) (now (versions .entry)) [])) (now (members .entry)) t) ⌝ }
+        ≡ startMarks (trailOf c (tables (now (entities .entry)) (now (versions .entry)) [])) (now (members .entry)) t (length (now (work .entry))) ⌝ }
 {
     clear(work);
     clear(seen);
