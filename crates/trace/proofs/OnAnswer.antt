@@ -86,5 +86,5 @@ module _ (c : Counts) (es vs ds us : List ℕ) (t : ℕ) (work marks : List ℕ)
         let k = length-forwardWork X us t in
         let w = left-work X (forwardWork X us t) work k part (v .marks) in
         let m = over-marks c (versionAt vs) (forwardWork X us t) seen marks marks′ n (l ∙ length-take-le (c .entities) marks (marks-fit c (tables es vs ds) us work marks p))
-            (left-marks X (forwardWork X us t) work k part (v .marks) (seen ++ drop (c .entities) marks) marks′ n q) in
+        (left-marks X (forwardWork X us t) work k part (v .marks) (seen ++ drop (c .entities) marks) marks′ n q) in
         (λ x. forwardTrace (record { refusal = 0; count = m .count x; intake = v .intake x }) (w x) (m .marks x)) ∙ sym (forwardOf-passed c (tables es vs ds) us t work marks p)

@@ -170,7 +170,14 @@ pub fn forward(
             intake: 0,
         },
         Checked::Passed => trace_on(
-            counts, entities, versions, edges, members, time, work, marks,
+            counts,
+            entities,
+            versions,
+            edges,
+            members,
+            time,
+            work,
+            marks,
         ),
     }
 }
