@@ -1,7 +1,7 @@
 -- The loop over the edges that enter marked versions: by k edges, with b, those still marked have the least of all.
 use Prim.Native.Nat.{ℕ, suc, _-_, min, _≤_, _<_}
 use native.Mathlib.Omega.{arith}
-use mathlib.Core.Path.{_≡_, refl, sym, _∙_, ap, subst}
+use mathlib.Core.Path.{_≡_, sym, _∙_, subst}
 use mathlib.Core.Bool.{true}
 use mathlib.Core.List.{List}
 use lib.ListN.{set}

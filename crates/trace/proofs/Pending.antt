@@ -1,12 +1,9 @@
 -- How many marks there are: one less where one is taken away, at most one more where one is added.
-use Prim.Native.Nat.{ℕ, zero, suc, _+_, _≤_, _<_}
-use native.Mathlib.Nat.{le-of-suc-le-suc}
+use Prim.Native.Nat.{ℕ, zero, suc, _≤_}
 use native.Mathlib.Omega.{arith}
-use mathlib.Core.Path.{_≡_, refl, sym, _∙_, ap}
-use mathlib.Core.Bool.{Bool, true, false, cond}
+use mathlib.Core.Path.{_≡_, refl}
 use mathlib.Core.List.{List, [], _∷_, map}
-use lib.ListN.{length, getD, set, replicate}
-use lib.Dec.{eqb}
+use lib.ListN.{length, set, replicate}
 use borrow.Author.Tests.{eq-eqb}
 use Rattle.rules.specs.Trail.{Trail}
 use Rattle.rules.specs.Start.{startOf}

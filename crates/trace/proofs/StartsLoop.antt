@@ -4,14 +4,13 @@ use native.Mathlib.Omega.{arith}
 use native.Mathlib.Decide.{decLt}
 use mathlib.Core.Path.{_≡_, refl, sym, _∙_, ap, subst}
 use mathlib.Core.Bool.{Bool, true, false, cond}
-use mathlib.Core.List.{List, [], _∷_, List·Memᴰ, map}
+use mathlib.Core.List.{List, _∷_, List·Memᴰ}
 use lib.ListN.{length, getD, set, drop, replicate, drop-of-length-le}
 use lib.Seq.{drop-cons, set-out}
 use lib.Dec.{eqb}
 use borrow.Author.Tests.{eqb-true, not-true, not-false}
 use Rattle.rows.specs.declared.VersionNo.{VersionNo}
-use Rattle.rows.specs.declared.Counts.{Counts}
-use Rattle.rules.specs.Trail.{Trail, tables, trailOf}
+use Rattle.rules.specs.Trail.{Trail}
 use Rattle.rules.specs.Start.{startOf}
 use Rattle.rules.specs.Marks.{seeded}
 use Rattle.rules.specs.Forward.{startsOf}
