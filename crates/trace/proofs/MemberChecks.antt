@@ -16,7 +16,7 @@ use Rattle.rows.specs.declared.Counts.{Counts}
 use Rattle.rules.specs.Trail.{Tables, capacityOf, trailOf}
 use Rattle.rules.specs.Sound.{isSound}
 use Rattle.rules.specs.Backward.{undeclaredChecks, bufferChecks, traceChecks}
-use Rattle.trace.specs.Starts.{anyUndeclared}
+use Rattle.trace.specs.EntityList.{anyUndeclared, checksWith}
 
 -- the loop stands at i
 module _ (e : ℕ) (us : List ℕ) (i : ℕ) (p : anyUndeclared e (drop i us) ≡ anyUndeclared e us) where
@@ -42,10 +42,10 @@ module _
     (x : ℕ)
     (work marks : List ℕ)
     (k : Checked)
-    (q : k ≡ firstOf (check (not (isSound (capacityOf t) (trailOf c t))) Unsound ∷ (check (leb (c .entities) x) Undeclared ∷ bufferChecks c work marks)))
+    (q : k ≡ firstOf (checksWith c t (leb (c .entities) x) work marks))
   where
     pub one-checked : k ≡ firstOf (traceChecks c t (x ∷ []) work marks)
-    unfolding traceChecks
+    unfolding traceChecks checksWith
     one-checked = q
 
     pub one-passed : k ≡ Passed → firstOf (traceChecks c t (x ∷ []) work marks) ≡ Passed
@@ -69,14 +69,14 @@ module _
     (b : Bool)
     (k : Checked)
     (p : b ≡ anyUndeclared (c .entities) us)
-    (q : k ≡ firstOf (check (not (isSound (capacityOf t) (trailOf c t))) Unsound ∷ (check b Undeclared ∷ bufferChecks c work marks)))
+    (q : k ≡ firstOf (checksWith c t b work marks))
   where
     pub list-checked : k ≡ firstOf (traceChecks c t us work marks)
-    unfolding traceChecks firstOf
+    unfolding traceChecks checksWith firstOf
     list-checked =
         let first = not (isSound (capacityOf t) (trailOf c t)) in
         q
-        ∙ ap (λ x. firstOf (check first Unsound ∷ (check x Undeclared ∷ bufferChecks c work marks))) p
+        ∙ ap (λ x. firstOf (checksWith c t x work marks)) p
         ∙ ap (cond first (Refused Unsound)) (sym (one-check c us (bufferChecks c work marks)))
 
     pub list-passed : k ≡ Passed → firstOf (traceChecks c t us work marks) ≡ Passed

@@ -21,7 +21,7 @@ use Rattle.closure.proofs.Checked.{passed-rows, passed-entities, versions-fit, 
 use Rattle.closure.proofs.TraceCalls.{forwardOf-passed}
 use Rattle.trace.specs.TraceArcs.{markedOn}
 use Rattle.trace.specs.Owners.{EntitiesMarked}
-use Rattle.trace.specs.Starts.{startMarks, Traceable, VersionsMarked}
+use Rattle.trace.specs.EntityList.{startMarks, Traceable, VersionsMarked}
 use Rattle.trace.specs.Intake.{LeastIntake}
 use Rattle.trace.proofs.IntakeIs.{intake-of-starts}
 use Rattle.trace.proofs.OnMarks.{work-on}

@@ -9,7 +9,7 @@ use Rattle.rules.specs.Trail.{Trail}
 use Rattle.rules.specs.Start.{startOf}
 use Rattle.rules.specs.Marks.{ones, seeded}
 use Rattle.closure.specs.Arcs.{Marked}
-use Rattle.trace.specs.Starts.{startMarks}
+use Rattle.trace.specs.EntityList.{startMarks}
 
 pub ones-unmark : (m : List ℕ) (i : ℕ) → Marked m i → suc (ones (set m i 0)) ≡ ones m
 unfolding ones

@@ -18,7 +18,7 @@ use Rattle.rules.proofs.Members.{mem-map}
 use Rattle.closure.proofs.Closed.{length-seeded, marked-seeded, seeded-marked}
 use Rattle.closure.proofs.Marks.{set-marked}
 use Rattle.trace.specs.Followed.{MarkedIf}
-use Rattle.trace.specs.Starts.{startMarks, StartMarked}
+use Rattle.trace.specs.EntityList.{startMarks, StartMarked}
 
 -- one member
 module _ (T : Trail) (t u : ℕ) (work seen : List ℕ) (r : Bool) (seen′ : List ℕ) (w : MarkedIf true u seen r seen′) where

@@ -1,5 +1,5 @@
 pub mod Followed
 pub mod TraceArcs
 pub mod Owners
-pub mod Starts
+pub mod EntityList
 pub mod Intake

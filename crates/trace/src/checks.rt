@@ -3,14 +3,9 @@ use refusals::Checked;
 use refusals::Refusal;
 use rows::Counts;
 ghost use mathlib.Core.Path.{_≡_};
-ghost use mathlib.Core.Bool.{not};
-ghost use mathlib.Core.List.{_∷_};
-ghost use Rattle.refusals.specs.declared.Refusal.the-variants.{Unsound, Undeclared};
-ghost use Rattle.refusals.specs.Refusals.{check, firstOf};
-ghost use Rattle.rules.specs.Trail.{tables, capacityOf, trailOf};
-ghost use Rattle.rules.specs.Sound.{isSound};
-ghost use Rattle.rules.specs.Backward.{bufferChecks};
-ghost use Rattle.trace.specs.Starts.{anyUndeclared};
+ghost use Rattle.refusals.specs.Refusals.{firstOf};
+ghost use Rattle.rules.specs.Trail.{tables};
+ghost use Rattle.trace.specs.EntityList.{anyUndeclared, checksWith};
 
 // Whether one of the members is none of e entities.
 pub fn any_undeclared(e: u32, members: &[u32]) -> bool
@@ -26,7 +21,7 @@ pub fn any_undeclared(e: u32, members: &[u32]) -> bool
     false
 }
 
-// Of entities of which one is undeclared or none is, with the two buffers.
+// The first of them, where it is known whether one of the entities is undeclared.
 pub fn check_trace(
     c: Counts,
     entities: &[u32],
@@ -37,9 +32,7 @@ pub fn check_trace(
     marks: &[u8],
 ) -> Checked
     ensures { λ r. ⌜ r ≡ firstOf
-        (check (not (isSound (capacityOf (tables (now (entities .entry)) (now (versions .entry)) (now (edges .entry))))
-        (trailOf c (tables (now (entities .entry)) (now (versions .entry)) (now (edges .entry)))))) Unsound
-        ∷ (check undeclared Undeclared ∷ bufferChecks c (now (work .entry)) (now (marks .entry)))) ⌝ }
+        (checksWith c (tables (now (entities .entry)) (now (versions .entry)) (now (edges .entry))) undeclared (now (work .entry)) (now (marks .entry))) ⌝ }
 {
     if !soundness::is_sound(c, entities, versions, edges) {
         return Checked::Refused(Refusal::Unsound);

@@ -18,7 +18,7 @@ ghost use Rattle.rows.specs.Capacity.{edgeCapacity};
 ghost use Rattle.rules.specs.Trail.{tables, trailOf};
 ghost use Rattle.rules.specs.Marks.{ones};
 ghost use Rattle.rules.specs.Forward.{forwardIntake};
-ghost use Rattle.trace.specs.Starts.{Traceable};
+ghost use Rattle.trace.specs.EntityList.{Traceable};
 ghost use Rattle.trace.specs.Intake.{entersMarked, upToEntering, Taken, LeastStart, LeastIntake};
 
 fn earlier(a: u32, b: u32) -> u32

@@ -28,7 +28,7 @@ ghost use Rattle.refusals.specs.Refusals.{firstOf};
 ghost use Rattle.rules.specs.Trail.{tables, trailOf};
 ghost use Rattle.rules.specs.Backward.{traceChecks, backwardTrace, backwardOf};
 ghost use Rattle.rules.specs.Forward.{forwardTrace, forwardOf};
-ghost use Rattle.trace.specs.Starts.{Traceable, VersionsMarked};
+ghost use Rattle.trace.specs.EntityList.{Traceable, VersionsMarked};
 
 // The backward trace of entity x, where the checks pass.
 fn trace_back(

@@ -14,7 +14,7 @@ ghost use lib.ListN.{length};
 ghost use Rattle.rows.specs.Rows.{versionAt};
 ghost use Rattle.rules.specs.Trail.{tables, trailOf};
 ghost use Rattle.rules.specs.Start.{startFrom, startOf};
-ghost use Rattle.trace.specs.Starts.{startMarks, StartMarked};
+ghost use Rattle.trace.specs.EntityList.{startMarks, StartMarked};
 
 // From version v through previous to the first with start ≤ t, in at most n steps.
 fn start_from(versions: &[u32], t: u32, n: u32, v: VersionNo) -> VersionNo

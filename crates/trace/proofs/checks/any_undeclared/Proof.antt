@@ -4,7 +4,7 @@ use native.Mathlib.Omega.{arith}
 use mathlib.Core.Path.{_≡_, refl}
 use lib.ListN.{length, drop}
 use borrow.Author.Needs.{needs}
-use Rattle.trace.specs.Starts.{anyUndeclared}
+use Rattle.trace.specs.EntityList.{anyUndeclared}
 use Rattle.trace.proofs.MemberChecks.{undeclared-here, undeclared-next, undeclared-end}
 use Rattle.trace.proofs.checks.any_undeclared.Statement.{statement}
 use Rattle.trace.proofs.checks.any_undeclared.Tie as tie

@@ -1,15 +1,19 @@
--- The members of a list of entities, as code goes through them.
+-- Forward traces of a list of entities (document 02, 2.2), as code makes them.
 use Prim.Native.Nat.{ℕ, _≤_}
 use mathlib.Core.Path.{_≡_}
-use mathlib.Core.Bool.{Bool, false, _||_, cond}
+use mathlib.Core.Bool.{Bool, false, _||_, not, cond}
 use mathlib.Core.List.{List, [], _∷_}
 use lib.ListN.{getD, set}
 use lib.Dec.{eqb, leb}
+use Rattle.refusals.specs.declared.Refusal.the-variants.{Unsound, Undeclared}
+use Rattle.refusals.specs.Refusals.{Check, check}
 use Rattle.rows.specs.declared.Counts.{Counts}
 use Rattle.rows.specs.Capacity.{versionCapacity, edgeCapacity}
-use Rattle.rules.specs.Trail.{Tables, Trail, trailOf}
+use Rattle.rules.specs.Trail.{Tables, capacityOf, Trail, trailOf}
+use Rattle.rules.specs.Sound.{isSound}
 use Rattle.rules.specs.Start.{startOf}
 use Rattle.rules.specs.Marks.{seeded}
+use Rattle.rules.specs.Backward.{bufferChecks}
 use Rattle.rules.specs.Forward.{startsOf, forwardWork, forwardIntake}
 use Rattle.soundness.specs.Facts.{RowFacts}
 use Rattle.closure.specs.Arcs.{AllBelow}
@@ -18,6 +22,10 @@ use Rattle.closure.specs.Arcs.{AllBelow}
 unfoldable pub anyUndeclared : ℕ → List ℕ → Bool
 anyUndeclared e [] = false
 anyUndeclared e (u ∷ us) = leb e u || anyUndeclared e us
+
+-- 16, 5 and 14 of a trace, with one test for 5
+unfoldable pub checksWith : Counts → Tables → Bool → List ℕ → List ℕ → List Check
+checksWith c t undeclared work marks = check (not (isSound (capacityOf t) (trailOf c t))) Unsound ∷ (check undeclared Undeclared ∷ bufferChecks c work marks)
 
 -- what the checks of a trace of the list give
 pub record Traceable (c : Counts) (t : Tables) (us : List ℕ) : Type 0 where
