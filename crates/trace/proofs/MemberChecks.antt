@@ -9,7 +9,7 @@ use lib.Seq.{drop-cons}
 use lib.Dec.{leb}
 use borrow.Author.Tests.{le-leb, lt-leb}
 use Rattle.refusals.specs.declared.Checked.{Checked}
-use Rattle.refusals.specs.declared.Checked.the-variants.{Passed, Refused}
+use Rattle.refusals.specs.declared.Checked.the-variants.{Refused}
 use Rattle.refusals.specs.declared.Refusal.the-variants.{Unsound, Undeclared}
 use Rattle.refusals.specs.Refusals.{Check, check, firstOf}
 use Rattle.rows.specs.declared.Counts.{Counts}
@@ -34,22 +34,11 @@ module _ (e : ℕ) (us : List ℕ) (i : ℕ) (p : anyUndeclared e (drop i us) �
   unfolding anyUndeclared
   undeclared-end l = ap (anyUndeclared e) (sym (drop-of-length-le us l)) ∙ p
 
--- of one entity, then of a list
-
-module _
-    (c : Counts)
-    (t : Tables)
-    (x : ℕ)
-    (work marks : List ℕ)
-    (k : Checked)
-    (q : k ≡ firstOf (checksWith c t (leb (c .entities) x) work marks))
-  where
-    pub one-checked : k ≡ firstOf (traceChecks c t (x ∷ []) work marks)
-    unfolding traceChecks checksWith
-    one-checked = q
-
-    pub one-passed : k ≡ Passed → firstOf (traceChecks c t (x ∷ []) work marks) ≡ Passed
-    one-passed z = sym one-checked ∙ z
+-- of one entity the test is the check
+pub one-checked : (c : Counts) (t : Tables) (x : ℕ) (work marks : List ℕ) (k : Checked) → k ≡ firstOf (checksWith c t (leb (c .entities) x) work marks)
+    → k ≡ firstOf (traceChecks c t (x ∷ []) work marks)
+unfolding traceChecks checksWith
+one-checked c t x work marks k q = q
 
 -- a check for each member is one check
 one-check : (c : Counts) (us : List ℕ) (cs : List Check) → firstOf (undeclaredChecks c us ++ cs) ≡ firstOf (check (anyUndeclared (c .entities) us) Undeclared ∷ cs)
@@ -62,22 +51,10 @@ one-check c (u ∷ us) cs = go (leb (c .entities) u) (one-check c us cs)
     go true q = refl
     go false q = q
 
-module _
-    (c : Counts)
-    (t : Tables)
-    (us work marks : List ℕ)
-    (b : Bool)
-    (k : Checked)
-    (p : b ≡ anyUndeclared (c .entities) us)
-    (q : k ≡ firstOf (checksWith c t b work marks))
-  where
-    pub list-checked : k ≡ firstOf (traceChecks c t us work marks)
-    unfolding traceChecks checksWith firstOf
-    list-checked =
-        let first = not (isSound (capacityOf t) (trailOf c t)) in
-        q
-        ∙ ap (λ x. firstOf (checksWith c t x work marks)) p
-        ∙ ap (cond first (Refused Unsound)) (sym (one-check c us (bufferChecks c work marks)))
-
-    pub list-passed : k ≡ Passed → firstOf (traceChecks c t us work marks) ≡ Passed
-    list-passed z = sym list-checked ∙ z
+pub list-checked : (c : Counts) (t : Tables) (us work marks : List ℕ) (b : Bool) (k : Checked) → b ≡ anyUndeclared (c .entities) us
+    → k ≡ firstOf (checksWith c t b work marks) → k ≡ firstOf (traceChecks c t us work marks)
+unfolding traceChecks checksWith firstOf
+list-checked c t us work marks b k p q =
+    q
+    ∙ ap (λ x. firstOf (checksWith c t x work marks)) p
+    ∙ ap (cond (not (isSound (capacityOf t) (trailOf c t))) (Refused Unsound)) (sym (one-check c us (bufferChecks c work marks)))

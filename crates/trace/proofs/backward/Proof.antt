@@ -1,6 +1,7 @@
 -- `trace::backward` meets its contract. A refused call leaves the buffers as they are; another is `trace_back`.
 use borrow.Author.Needs.{needs}
-use Rattle.trace.proofs.MemberChecks.{one-checked, one-passed}
+use Rattle.closure.proofs.Checked.{checked-passed}
+use Rattle.trace.proofs.MemberChecks.{one-checked}
 use Rattle.trace.proofs.BackAnswer.{backward-refused}
 use Rattle.trace.proofs.backward.Statement.{statement}
 use Rattle.trace.proofs.backward.Tie as tie
@@ -18,7 +19,7 @@ enum-told : tie.Need-enum-told
 enum-told c = search needs
 
 trace-back-requires : tie.Need-trace-back-requires
-trace-back-requires c κs = one-passed _ _ _ _ _ _ (c .before .before .before .before .check-trace .ensures) (c .before .before .enum-told .given .1)
+trace-back-requires c κs = checked-passed _ _ _ _ _ _ (one-checked _ _ _ _ _ _ (c .before .before .before .before .check-trace .ensures)) (c .before .before .enum-told .given .1)
 
 same-length : tie.Need-same-length
 same-length c = search needs

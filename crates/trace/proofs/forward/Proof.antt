@@ -1,6 +1,7 @@
 -- `trace::forward` meets its contract. A refused call leaves the buffers as they are; another is `trace_on`.
 use borrow.Author.Needs.{needs}
-use Rattle.trace.proofs.MemberChecks.{list-checked, list-passed}
+use Rattle.closure.proofs.Checked.{checked-passed}
+use Rattle.trace.proofs.MemberChecks.{list-checked}
 use Rattle.trace.proofs.OnAnswer.{forward-refused}
 use Rattle.trace.proofs.forward.Statement.{statement}
 use Rattle.trace.proofs.forward.Tie as tie
@@ -21,7 +22,7 @@ enum-told : tie.Need-enum-told
 enum-told c = search needs
 
 trace-on-requires : tie.Need-trace-on-requires
-trace-on-requires c κs = list-passed _ _ _ _ _ _ _ (c .before .before .before .before .before .before .before .any-undeclared .ensures) (c .before .before .before .before .check-trace .ensures) (c .before .before .enum-told .given .1)
+trace-on-requires c κs = checked-passed _ _ _ _ _ _ (list-checked _ _ _ _ _ _ _ (c .before .before .before .before .before .before .before .any-undeclared .ensures) (c .before .before .before .before .check-trace .ensures)) (c .before .before .enum-told .given .1)
 
 same-length : tie.Need-same-length
 same-length c = search needs
