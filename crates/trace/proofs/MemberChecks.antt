@@ -41,13 +41,13 @@ unfolding traceChecks checksWith
 one-checked c t x work marks k q = q
 
 -- a check for each member is one check
-one-check : (c : Counts) (us : List ℕ) (cs : List Check) → firstOf (undeclaredChecks c us ++ cs) ≡ firstOf (check (anyUndeclared (c .entities) us) Undeclared ∷ cs)
+one-check : (n : ℕ) (us : List ℕ) (cs : List Check) → firstOf (undeclaredChecks n us ++ cs) ≡ firstOf (check (anyUndeclared n us) Undeclared ∷ cs)
 unfolding firstOf anyUndeclared
-one-check c [] cs = refl
-one-check c (u ∷ us) cs = go (leb (c .entities) u) (one-check c us cs)
+one-check n [] cs = refl
+one-check n (u ∷ us) cs = go (leb n u) (one-check n us cs)
   where
-    go : (b : Bool) → firstOf (undeclaredChecks c us ++ cs) ≡ cond (anyUndeclared (c .entities) us) (Refused Undeclared) (firstOf cs)
-        → cond b (Refused Undeclared) (firstOf (undeclaredChecks c us ++ cs)) ≡ cond (b || anyUndeclared (c .entities) us) (Refused Undeclared) (firstOf cs)
+    go : (b : Bool) → firstOf (undeclaredChecks n us ++ cs) ≡ cond (anyUndeclared n us) (Refused Undeclared) (firstOf cs)
+        → cond b (Refused Undeclared) (firstOf (undeclaredChecks n us ++ cs)) ≡ cond (b || anyUndeclared n us) (Refused Undeclared) (firstOf cs)
     go true q = refl
     go false q = q
 
@@ -57,4 +57,4 @@ unfolding traceChecks checksWith firstOf
 list-checked c t us work marks b k p q =
     q
     ∙ ap (λ x. firstOf (checksWith c t x work marks)) p
-    ∙ ap (cond (not (isSound (capacityOf t) (trailOf c t))) (Refused Unsound)) (sym (one-check c us (bufferChecks c work marks)))
+    ∙ ap (cond (not (isSound (capacityOf t) (trailOf c t))) (Refused Unsound)) (sym (one-check (c .entities) us (bufferChecks c work marks)))
