@@ -51,7 +51,7 @@ module _ (T : Trail) (f : RowFacts T) (t : ℕ) where
             by j h (yes e) d = let i = subst (Enters T s t) e d in c .0 (i .1) (i .2)
             by j h (no e) d = none j (omega arith) d
 
-    lastIntake-is : lastIntake (T .version) (T .edge) s t (T .counts .edges) ≡ intakeOf T s t
+    pub lastIntake-is : lastIntake (T .version) (T .edge) s t (T .counts .edges) ≡ intakeOf T s t
     lastIntake-is = last-is (T .counts .edges) (omega arith) (λ j h e. omega (arith, e .0))
 
     intake-by-last : s < T .counts .versions → intakeOf T s t ≤ T .counts .last

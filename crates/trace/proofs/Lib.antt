@@ -18,6 +18,7 @@ pub mod StartLoop
 pub mod MemberChecks
 pub mod StartsLoop
 -- the intake
+pub mod IntakeLoop
 pub mod Least
 pub mod Pending
 pub mod EnteringLoop

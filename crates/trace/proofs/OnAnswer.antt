@@ -3,13 +3,14 @@ use Prim.Native.Nat.{ℕ}
 use native.Mathlib.Omega.{arith}
 use mathlib.Core.Path.{_≡_, refl, sym, _∙_, ap, subst}
 use mathlib.Core.List.{List, [], _∷_, _++_}
-use lib.ListN.{length, take, drop}
+use lib.ListN.{length, getD, take, drop}
 use lib.Seq.{length-take-le}
 use Rattle.refusals.specs.declared.Refusal.{Refusal}
 use Rattle.refusals.specs.declared.Checked.{Checked}
 use Rattle.refusals.specs.declared.Checked.the-variants.{Passed, Refused}
 use Rattle.refusals.specs.Refusals.{firstOf, refusalNo}
 use Rattle.rows.specs.declared.Counts.{Counts}
+use Rattle.rows.specs.declared.VersionNo.{VersionNo}
 use Rattle.rows.specs.Rows.{versionAt, edgeAt}
 use Rattle.rules.specs.Trail.{Trail, tables, trailOf}
 use Rattle.rules.specs.Start.{startOf}
@@ -22,8 +23,9 @@ use Rattle.closure.proofs.TraceCalls.{forwardOf-passed}
 use Rattle.trace.specs.TraceArcs.{markedOn}
 use Rattle.trace.specs.Owners.{EntitiesMarked}
 use Rattle.trace.specs.EntityList.{startMarks, Traceable, VersionsMarked}
-use Rattle.trace.specs.Intake.{LeastIntake}
-use Rattle.trace.proofs.IntakeIs.{intake-of-starts}
+use Rattle.trace.specs.Intake.{lastIntake, LeastIntake}
+use Rattle.trace.proofs.IntakeIs.{lastIntake-is, intake-of-starts}
+use Rattle.trace.proofs.StartLoop.{start-any}
 use Rattle.trace.proofs.OnMarks.{work-on}
 use Rattle.trace.proofs.Buffers.{left-work, left-marks, over-marks}
 
@@ -50,6 +52,18 @@ module _ (c : Counts) (es vs ds us : List ℕ) (t : ℕ) where
     intake = e;
     marks = z ∙ ap (markedOn (versionAt vs) (edgeAt ds) (c .versions) (c .edges)) (started m m₁ (l ∙ sym k) q) ∙ work-on T (p .rows) us t (p .declared);
   }
+
+-- a list of one
+pub one-found : (c : Counts) (es vs ds us : List ℕ) (t : ℕ) → Traceable c (tables es vs ds) us → length us ≡ 1 → (s : VersionNo) (r : ℕ)
+    → s .0 ≡ startOf (trailOf c (tables es vs [])) (getD us 0 0) t → r ≡ lastIntake (versionAt vs) (edgeAt ds) (s .0) t (c .edges)
+    → r ≡ forwardIntake (trailOf c (tables es vs ds)) us t
+unfolding forwardIntake
+one-found c es vs ds [] t p l s r q e = absurd (omega arith)
+one-found c es vs ds (u ∷ []) t p l s r q e =
+    e
+    ∙ ap (λ v. lastIntake (versionAt vs) (edgeAt ds) v t (c .edges)) (q ∙ start-any c es vs ds u t)
+    ∙ lastIntake-is (trailOf c (tables es vs ds)) (p .rows) t (startOf (trailOf c (tables es vs ds)) u t)
+one-found c es vs ds (u ∷ (v ∷ us)) t p l s r q e = absurd (omega arith)
 
 -- an empty list
 pub none-found : (T : Trail) (us : List ℕ) (t : ℕ) → length us ≡ 0 → 0 ≡ forwardIntake T us t

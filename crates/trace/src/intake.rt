@@ -2,9 +2,11 @@
 use super::marks::marked;
 use super::marks::unmark;
 use super::start::mark_starts;
+use super::start::start_version;
 use rows::Counts;
 use rows::EdgeNo;
 use rows::EdgeRow;
+use rows::EntityNo;
 use rows::VersionNo;
 use rows::edge_in;
 use rows::version_start;
@@ -19,7 +21,33 @@ ghost use Rattle.rules.specs.Trail.{tables, trailOf};
 ghost use Rattle.rules.specs.Marks.{ones};
 ghost use Rattle.rules.specs.Forward.{forwardIntake};
 ghost use Rattle.trace.specs.EntityList.{Traceable};
-ghost use Rattle.trace.specs.Intake.{entersMarked, upToEntering, Taken, LeastStart, LeastIntake};
+ghost use Rattle.trace.specs.Intake.{entersBy, lastIntake, entersMarked, upToEntering, Taken, LeastStart, LeastIntake};
+
+// Whether edge e enters version s with time ≤ t.
+fn enters(s: VersionNo, t: u32, e: EdgeRow) -> bool
+    ensures { λ r. ⌜ r ≡ entersBy (s .0) t e ⌝ }
+{
+    if e.to.0 == s.0 {
+        return e.time <= t;
+    }
+    false
+}
+
+// The intake of version s at time t: the time of the last of d edges that enters it by then, else its start.
+fn intake_of(versions: &[u32], edges: &[u32], d: u32, s: VersionNo, t: u32) -> u32
+    requires { ⌜ d ≤ edgeCapacity (now edges) ⌝ }
+    ensures { λ r. ⌜ r ≡ lastIntake (versionAt (now (versions .entry))) (edgeAt (now (edges .entry))) (s .0) t d ⌝ }
+{
+    let mut k = d;
+    while 0 < k {
+        k -= 1;
+        let e = edge_in(edges, EdgeNo(k));
+        if enters(s, t, e) {
+            return e.time;
+        }
+    }
+    version_start(versions, s)
+}
 
 fn earlier(a: u32, b: u32) -> u32
     ensures { λ r. ⌜ r ≡ min a b ⌝ }
@@ -117,7 +145,8 @@ fn earliest_intake(
     r
 }
 
-// The earliest intake of the members, 0 if there are none. Of sound tables no intake is after the last time.
+// The earliest intake of the members, 0 if there are none. One alone is looked for by its number, which is faster than by marks. Of
+// sound tables no intake is after the last time.
 pub fn intake(
     c: Counts,
     entities: &[u32],
@@ -133,6 +162,10 @@ pub fn intake(
 {
     if members.len() == 0 {
         return 0;
+    }
+    if members.len() == 1 {
+        let s = start_version(c, entities, versions, EntityNo(members[0]), t);
+        return intake_of(versions, edges, c.edges, s, t);
     }
     mark_starts(c, entities, versions, members, t, work, seen);
     earliest_intake(

@@ -76,7 +76,16 @@ pub extern "C" fn slt_forward(
     ensures { λ r. ⌜ ForwardPromise counts (tables (now (entities .entry)) (now (versions .entry)) (now (edges .entry)))
         (now (members .entry)) time (now (work .entry)) (now (marks .entry)) (forwardTrace r (now (work .exit)) (now (marks .exit))) ⌝ }
 {
-    trace::forward(counts, entities, versions, edges, members, time, work, marks)
+    trace::forward(
+        counts,
+        entities,
+        versions,
+        edges,
+        members,
+        time,
+        work,
+        marks,
+    )
 }
 
 // Writes the kept log: an event file of the declarations and the kept events.
