@@ -117,7 +117,7 @@ static void trace_forwards(void)
     trace_forward(NULL, 0, 6, "an empty list marks nothing", 0, 0, from_none);
 }
 
-/* One member that is not declared refuses the list, and nothing is written. */
+/* One member that is not declared refuses the list, and no mark is written. */
 static void refused_forward(void)
 {
     static const uint32_t members[] = { 3, 1, 4 };

@@ -154,14 +154,14 @@ slt_backward_answer slt_backward(
 
 /*
  * The forward trace of a list of entities at a time; one entity is a list of one. The list may be of any length, empty too, and hold
- * an entity more than once: that, and the order of the members, changes nothing. An entity is marked if the trace of one of the
- * members alone marks it. A member's intake is the greatest time, at or before the given one, of an edge that enters its start
+ * an entity more than once: that, and the order of the members, changes nothing. An entity is marked exactly if the trace of one of
+ * the members alone marks it. A member's intake is the greatest time, at or before the given one, of an edge that enters its start
  * version, else that version's start; the intake given is the earliest of the members', 0 for an empty list. In a trail that
  * batches grew from a fresh one, a member's intake is the time of the last kept event into it at or before the given time, 0 if
  * there is none, and it marks the entities with a causal path from it through events accepted after that one, itself among them.
  *
- * Refused with 16, with 5 if any member is not declared, and with 14, of an empty list too; buffers as for slt_backward; refused, the
- * intake is 0 too.
+ * Refused with 16, 5, 14: with 5 if any member is not declared; an empty list with 16 and 14 as any other. Buffers as for
+ * slt_backward; refused, the intake is 0 too.
  */
 slt_forward_answer slt_forward(
     slt_counts counts,

@@ -8,6 +8,7 @@ pub mod Plain
 pub mod Matching
 pub mod Held
 pub mod Left
+pub mod TraceAnswers
 pub mod Demand3
 pub mod OneEntity
 -- What the edges stand for, and demand 2

@@ -19,7 +19,7 @@ use Rattle.rules.specs.declared.BackwardAnswer.{BackwardAnswer}
 use Rattle.rules.specs.PlainList.{worked}
 use Rattle.rules.specs.StandsFor.{standsFor, lastTime}
 use Rattle.rules.specs.Backward.{bufferChecks, traceRefusals}
-use Rattle.rules.specs.Members.{IsEarliest, empty}
+use Rattle.rules.specs.Members.{IsEarliest}
 use Rattle.rules.specs.CallCases.{execves}
 use Rattle.rules.proofs.Computed.{computed}
 use Rattle.rules.proofs.MemberCases.{memberCases}

@@ -1,6 +1,6 @@
 -- The only answers that the claims allow for the worked list of calls. The computed answer agrees, by demands 2 and 3; two answers that
 -- agree are the same; and the rows of the worked trail say what the computed one is.
-use Prim.Native.Nat.{ℕ, _≤_, _<_}
+use Prim.Native.Nat.{ℕ, _≤_}
 use native.Mathlib.Omega.{arith}
 use mathlib.Core.Path.{_≡_, sym, _∙_, ap}
 use mathlib.Core.Bool.{Bool, cond}

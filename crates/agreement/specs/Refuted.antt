@@ -131,7 +131,8 @@ pub record Refuted : Type 0 where
   -- "In such a list a trace is refused only with 5 or 14": not with 16, and not at all if the entities are declared and the buffers are
   -- long enough
   pub backward-refused : (work marks : List ℕ) (b : BackwardTrace) → b .answer .refusal ≡ refusalNo Unsound → BackwardAgrees workedPlain 2 6 work marks b → ⊥
-  pub forward-refused : (work marks : List ℕ) (f : ForwardTrace) → f .answer .refusal ≡ refusalNo Unsound → ForwardAgrees workedPlain (3 ∷ []) 0 work marks f → ⊥
+  pub forward-refused : (work marks : List ℕ) (f : ForwardTrace) → f .answer .refusal ≡ refusalNo Unsound
+      → ForwardAgrees workedPlain (3 ∷ []) 0 work marks f → ⊥
   pub backward-always-refused : (work marks : List ℕ) (b : BackwardTrace) → 5 ≤ length work → 4 ≤ length marks → (b .answer .refusal ≡ 0 → ⊥)
       → BackwardAgrees workedPlain 2 6 work marks b → ⊥
   pub forward-always-refused : (work marks : List ℕ) (f : ForwardTrace) → 5 ≤ length work → 4 ≤ length marks → (f .answer .refusal ≡ 0 → ⊥)

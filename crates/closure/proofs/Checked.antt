@@ -2,7 +2,7 @@
 use Prim.Native.Nat.{ℕ, _≤_, _<_}
 use native.Mathlib.Omega.{arith}
 use native.Mathlib.Decide.{decLe}
-use mathlib.Core.Path.{_≡_, refl, sym, _∙_}
+use mathlib.Core.Path.{_≡_, refl, sym, _∙_, ap}
 use mathlib.Core.Logic.{_⊎_, inl, inr}
 use mathlib.Core.Bool.{Bool, true, false, not, cond}
 use mathlib.Core.List.{List, [], _∷_, _++_, List·Memᴰ, List·Memᴰ·head, List·Memᴰ·tail, List·Memᴰ·cases-cons, List·Memᴰ·not-nil}
@@ -69,6 +69,12 @@ module _ (n : ℕ) (cs : List Check) where
       at y (inr m) z = z y m
 
 -- All checks
+
+-- where 5 and 14 are the same, all are
+pub checked-by : (c : Counts) (t : Tables) (xs ys work marks : List ℕ) → firstOf (traceRefusals c xs work marks) ≡ firstOf (traceRefusals c ys work marks)
+    → firstOf (traceChecks c t xs work marks) ≡ firstOf (traceChecks c t ys work marks)
+unfolding traceChecks firstOf
+checked-by c t xs ys work marks = ap (cond (not (isSound (capacityOf t) (trailOf c t))) (Refused Unsound))
 
 pub checked-passed : (c : Counts) (t : Tables) (xs work marks : List ℕ) (k : Checked) → k ≡ firstOf (traceChecks c t xs work marks) → k ≡ Passed
     → firstOf (traceChecks c t xs work marks) ≡ Passed

@@ -9,7 +9,6 @@ use lib.ListN.{length}
 use lib.Dec.{leb, ltb}
 use borrow.Author.Tests.{leb-true}
 use Rattle.refusals.specs.declared.Refusal.the-variants.{Unsound, Undeclared, BufferShort}
-use Rattle.refusals.specs.declared.Checked.{Checked}
 use Rattle.refusals.specs.declared.Checked.the-variants.{Passed, Refused}
 use Rattle.refusals.specs.Refusals.{Check, firstOf, numberOf}
 use Rattle.rows.specs.declared.Counts.{Counts}
@@ -17,14 +16,14 @@ use Rattle.rules.specs.Trail.{Tables, capacityOf, Trail, trailOf}
 use Rattle.rules.specs.Sound.{isSound}
 use Rattle.rules.specs.Start.{StartVersion, IsIntake}
 use Rattle.rules.specs.Backward.{bufferChecks, traceRefusals, traceChecks}
-use Rattle.rules.specs.Members.{OfAny, IsEarliest, least, empty}
+use Rattle.rules.specs.Members.{OfAny, IsEarliest}
 use Rattle.rules.specs.Forward.{ForwardMarks, MarkedFrom, IntakeFrom, ForwardTrace, forwardOf}
 use Rattle.rules.proofs.Start.{start-one}
 use Rattle.rules.proofs.Members.{ofAny-one, ofAny-same, earliest-same}
 use Rattle.closure.specs.Arcs.{AllBelow}
 use Rattle.closure.specs.ByRelations.{Marking, IsForwardTrace}
 use Rattle.closure.specs.Members.{SameMembers, Members}
-use Rattle.closure.proofs.Checked.{declared-or-not, declared-next, undeclared-refused}
+use Rattle.closure.proofs.Checked.{declared-or-not, declared-next, undeclared-refused, checked-by}
 use Rattle.closure.proofs.Marking.{marking-iff}
 use Rattle.closure.proofs.TraceCalls.{traceChecked}
 use Rattle.closure.proofs.ByRelations.{traces-by-relations}
@@ -44,8 +43,7 @@ module _ (c : Counts) (t : Tables) (work marks : List ℕ) where
       go (inr (x, m, l)) = undeclared-refused (c .entities) cs us x m l ∙ sym (undeclared-refused (c .entities) cs us′ x (h x .0 m) l)
 
   checked-same : (us us′ : List ℕ) → SameMembers us us′ → traceChecked c t us work marks ≡ traceChecked c t us′ work marks
-  unfolding traceChecks firstOf
-  checked-same us us′ h = ap (cond (not (isSound (capacityOf t) (trailOf c t))) (Refused Unsound)) (refusals-same us us′ h)
+  checked-same us us′ h = checked-by c t us us′ work marks (refusals-same us us′ h)
 
   none-same : (us us′ : List ℕ) → SameMembers us us′ → us ≡ [] → us′ ≡ []
   none-same us [] h q = refl

@@ -1,26 +1,22 @@
 -- The forward trace of a list is the union of those of its members, each traced alone (specs/Members.antt).
-use Prim.Native.Nat.{ℕ, _≤_, _<_}
+use Prim.Native.Nat.{ℕ, _<_}
 use mathlib.Core.Path.{_≡_, refl, sym, _∙_, ap}
 use mathlib.Core.Logic.{_↔_, Iff·trans, Iff·symm}
-use mathlib.Core.Bool.{not, cond}
 use mathlib.Core.List.{List, [], _∷_, List·Memᴰ, List·Memᴰ·eq-of-singleton}
 use lib.ListN.{getD}
-use Rattle.refusals.specs.declared.Refusal.the-variants.{Unsound}
-use Rattle.refusals.specs.declared.Checked.the-variants.{Passed, Refused}
-use Rattle.refusals.specs.Refusals.{firstOf, numberOf}
+use Rattle.refusals.specs.declared.Checked.the-variants.{Passed}
+use Rattle.refusals.specs.Refusals.{numberOf}
 use Rattle.rows.specs.declared.Counts.{Counts}
-use Rattle.rules.specs.Trail.{Tables, capacityOf, Trail, trailOf, none}
-use Rattle.rules.specs.Sound.{isSound}
+use Rattle.rules.specs.Trail.{Tables, Trail, trailOf}
 use Rattle.rules.specs.Start.{startOf, intakeOf}
-use Rattle.rules.specs.Backward.{bufferChecks, traceChecks}
-use Rattle.rules.specs.Members.{OfAny, IsEarliest}
+use Rattle.rules.specs.Backward.{bufferChecks}
+use Rattle.rules.specs.Members.{OfAny}
 use Rattle.rules.specs.Forward.{MarkedFrom, IntakeFrom, forwardIntake, ForwardTrace, forwardOf}
 use Rattle.rules.proofs.Members.{ofAny-iff, ofAny-one, earliest-same}
-use Rattle.soundness.specs.Facts.{RowFacts}
 use Rattle.closure.specs.Arcs.{AllBelow}
-use Rattle.closure.specs.ByRelations.{MarksLeft, CountOf, HasMarkedVersion, IsForwardTrace}
+use Rattle.closure.specs.ByRelations.{MarksLeft, HasMarkedVersion, IsForwardTrace}
 use Rattle.closure.specs.Members.{MarkedAlone, Union}
-use Rattle.closure.proofs.Checked.{declared-next, number-passed, passed-rows, versions-few, passed-entities}
+use Rattle.closure.proofs.Checked.{declared-next, checked-by, number-passed, passed-rows, versions-few, passed-entities}
 use Rattle.closure.proofs.FromStart.{intake-from}
 use Rattle.closure.proofs.Marking.{countOf-iff}
 use Rattle.closure.proofs.TraceCalls.{traceChecked, forwardOf-passed}
@@ -38,10 +34,9 @@ in-use g k l = (λ q. g .marked k .0 (l, q), λ d. g .marked k .1 d .1)
 -- lists of declared entities are checked alike
 checked-alike : (c : Counts) (t : Tables) (us us′ work marks : List ℕ) → AllBelow (c .entities) us → AllBelow (c .entities) us′
     → traceChecked c t us work marks ≡ traceChecked c t us′ work marks
-unfolding traceChecks firstOf
 checked-alike c t us us′ work marks h h′ =
     let cs = bufferChecks c work marks in
-    ap (cond (not (isSound (capacityOf t) (trailOf c t))) (Refused Unsound)) (declared-next (c .entities) cs us h ∙ sym (declared-next (c .entities) cs us′ h′))
+    checked-by c t us us′ work marks (declared-next (c .entities) cs us h ∙ sym (declared-next (c .entities) cs us′ h′))
 
 module _ (c : Counts) (t : Tables) (us : List ℕ) (time : ℕ) (work marks : List ℕ) (z : forwardOf c t us time work marks .answer .refusal ≡ 0) where
   abbrev T : Trail
@@ -84,13 +79,13 @@ module _ (c : Counts) (t : Tables) (us : List ℕ) (time : ℕ) (work marks : Li
   traced : ForwardTraced T us time work marks (of us)
   traced = is us .traced z
 
-  marks-union : (x : ℕ) → x < c .entities → (getD (of us .marks) x 0 ≡ 1) ↔ MarkedAlone c us (of us) (λ u. of (u ∷ [])) (λ g. g .marks) x
+  marks-union : (x : ℕ) → x < c .entities → (getD (of us .marks) x 0 ≡ 1) ↔ MarkedAlone us (λ u. of (u ∷ [])) (λ g. g .marks) x
   marks-union x l =
       Iff·trans (in-use (traced .1 .entities) x l)
       (Iff·trans (owner-any T us (MarkedFrom T time) x)
       (ofAny-iff us (λ u. HasMarkedVersion T (MarkedFrom T time u)) (λ u k. getD (of (u ∷ []) .marks) k 0 ≡ 1) x (λ u m. owner-alone u m x l)))
 
-  pub union : Union c us (of us) (λ u. of (u ∷ []))
+  pub union : Union us (λ u. of (u ∷ [])) c (of us)
   union = record {
     member = number-alone;
     work = λ w l.

@@ -15,14 +15,14 @@ use Rattle.closure.specs.ByRelations.{CountOf, Marking, IsForwardTrace}
 abbrev pub SameMembers : List ℕ → List ℕ → Type 0
 SameMembers us us′ = (u : ℕ) → List·Memᴰ u us ↔ List·Memᴰ u us′
 
--- f is the trace of the list; alone u is that of the list of u, lent the same
-module _ (c : Counts) (us : List ℕ) (f : ForwardTrace) (alone : ℕ → ForwardTrace) where
+-- alone u is the trace of the list of u, lent the same as the trace f of the list us
+module _ (us : List ℕ) (alone : ℕ → ForwardTrace) where
   -- the byte of place k is 1 in what one of the members leaves alone
   abbrev pub MarkedAlone : (ForwardTrace → List ℕ) → ℕ → Type 0
   MarkedAlone buffer = OfAny us (λ u k. getD (buffer (alone u)) k 0 ≡ 1)
 
   -- "mark what any of them marks alone .. The count is of the union; the intake given is the earliest of the members', 0 for an empty list."
-  pub record Union : Type 0 where
+  pub record Union (c : Counts) (f : ForwardTrace) : Type 0 where
     pub member : (u : ℕ) → List·Memᴰ u us → alone u .answer .refusal ≡ 0
     pub work : (w : ℕ) → w < c .versions → (getD (f .work) w 0 ≡ 1) ↔ MarkedAlone (λ g. g .work) w
     pub marks : (x : ℕ) → x < c .entities → (getD (f .marks) x 0 ≡ 1) ↔ MarkedAlone (λ g. g .marks) x
@@ -32,7 +32,7 @@ module _ (c : Counts) (us : List ℕ) (f : ForwardTrace) (alone : ℕ → Forwar
 pub record Members : Type 0 where
   -- for any tables: those that are not sound are refused
   pub union : (c : Counts) (t : Tables) (us : List ℕ) (time : ℕ) (work marks : List ℕ) → forwardOf c t us time work marks .answer .refusal ≡ 0
-      → Union c us (forwardOf c t us time work marks) (λ u. forwardOf c t (u ∷ []) time work marks)
+      → Union us (λ u. forwardOf c t (u ∷ []) time work marks) c (forwardOf c t us time work marks)
   -- "One undeclared member gives 5", wherever it stands
   pub undeclared : (c : Counts) (t : Tables) (us : List ℕ) (time : ℕ) (work marks : List ℕ) (u : ℕ) → List·Memᴰ u us
       → forwardOf c t (u ∷ []) time work marks .answer .refusal ≡ 5 → forwardOf c t us time work marks .answer .refusal ≡ 5

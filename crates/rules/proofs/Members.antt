@@ -5,7 +5,7 @@ use native.Mathlib.Decide.{decLe}
 use mathlib.Core.Path.{_≡_, refl, sym, _∙_, ap, subst}
 use mathlib.Core.Logic.{_⊎_, inl, inr, _↔_}
 use mathlib.Core.List.{List, [], _∷_, map, List·Memᴰ, List·Memᴰ·head, List·Memᴰ·tail, List·Memᴰ·cases-cons, List·Memᴰ·not-nil, List·Memᴰ·eq-of-singleton}
-use Rattle.rules.specs.Members.{OfAny, IsEarliest, least, empty, earliest}
+use Rattle.rules.specs.Members.{OfAny, IsEarliest, earliest}
 
 -- the values of the members
 pub mem-map : (g : ℕ → ℕ) (us : List ℕ) (x : ℕ) → List·Memᴰ x (map g us) ↔ ((u : ℕ) × List·Memᴰ u us × (x ≡ g u))

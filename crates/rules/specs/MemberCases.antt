@@ -4,7 +4,7 @@ use mathlib.Core.Path.{_≡_}
 use mathlib.Core.List.{List, [], _∷_, _++_, map}
 use lib.ListN.{replicate}
 use Rattle.record.specs.declared.Record.{Record}
-use Rattle.rules.specs.Trail.{capacityOf, freshCounts}
+use Rattle.rules.specs.Trail.{tables, capacityOf, counts, freshCounts, none}
 use Rattle.rules.specs.Batch.{Batched}
 use Rattle.rules.specs.PlainList.{addedBy}
 use Rattle.rules.specs.Members.{earliest}
@@ -33,9 +33,16 @@ writtenForward us = forwardOf (writtenBack .counts) (writtenBack .tables) us 2 (
 abbrev pub readAfter : Batched
 readAfter = takenIn (declare 0 0 ++ (declare 1 1 ++ (declare 2 0 ++ (event 2 1 2 1 ++ event 1 0 1 2))))
 
+-- sound, but grown by no file: the latest versions of two objects start at 6 and at 8, and there is no edge
+abbrev pub twoStarts : List ℕ → ForwardTrace
+twoStarts us =
+    forwardOf (counts 2 4 0 0 8)
+    (tables (0 ∷ 2 ∷ 0 ∷ 3 ∷ []) (0 ∷ 0 ∷ 0 ∷ none ∷ 1 ∷ 0 ∷ 0 ∷ none ∷ 0 ∷ 6 ∷ 6 ∷ 0 ∷ 1 ∷ 8 ∷ 8 ∷ 1 ∷ []) [])
+    us 9 (replicate 4 9) (replicate 2 9)
+
 -- the traces of the lists, with buffers a byte longer than the trail of RecordCases has versions and entities
-abbrev pub refusedIn : List (List ℕ) → List ForwardTrace
-refusedIn = map (λ us. forwardIn 8 5 us 5)
+abbrev pub tracesIn : List (List ℕ) → List ForwardTrace
+tracesIn = map (λ us. forwardIn 8 5 us 5)
 
 pub record MemberCases : Type 0 where
   -- "mark what any of them marks alone": the worked trail's study and montage; the stager, whose intake is at 5, and the report, at 6
@@ -48,14 +55,18 @@ pub record MemberCases : Type 0 where
   -- every member counts, wherever it stands: the montage's own marks and intake
   pub first-counts : ForwardIs (forward (3 ∷ 2 ∷ 2 ∷ []) 6) 3 0 (0 ∷ 1 ∷ 1 ∷ 1 ∷ [])
   pub last-counts : ForwardIs (forward (2 ∷ 2 ∷ 3 ∷ []) 6) 3 0 (0 ∷ 1 ∷ 1 ∷ 1 ∷ [])
-  -- of a version or an entity that another member marks, too: the stager and the report at 1, the montage and the stager at 4
+  -- of a version or an entity that another member marks, too: the stager and the report at 1; the montage and the stager at 4; object 0
+  -- and subject 1 at 1, whose first version alone gave to 2
   pub marked-already : ForwardIs (forward (1 ∷ 2 ∷ []) 1) 2 0 (0 ∷ 1 ∷ 1 ∷ 0 ∷ [])
   pub older-version : forward (3 ∷ 1 ∷ []) 4 ≡ forwardTo 3 0 (0 ∷ 1 ∷ 1 ∷ 1 ∷ 1 ∷ 9 ∷ []) (0 ∷ 1 ∷ 1 ∷ 1 ∷ 9 ∷ [])
-  pub older-version-gave : forwardOf (readAfter .counts) (readAfter .tables) (0 ∷ 1 ∷ []) 1 (replicate 4 9) (replicate 3 9) ≡ forwardTo 3 0 (1 ∷ 1 ∷ 1 ∷ 1 ∷ []) (1 ∷ 1 ∷ 1 ∷ [])
-  -- "the earliest of the members'", of one without a kept intake too; else the start of its start version, here of versions that start at 6
-  -- and at 8
+  pub older-version-gave : forwardOf (readAfter .counts) (readAfter .tables) (0 ∷ 1 ∷ []) 1 (replicate 4 9) (replicate 3 9)
+      ≡ forwardTo 3 0 (1 ∷ 1 ∷ 1 ∷ 1 ∷ []) (1 ∷ 1 ∷ 1 ∷ [])
+  -- "the earliest of the members'", of one without a kept intake too; where no edge enters a start version its start counts: 6, where the
+  -- other's intake is at 8, and of two starts, at 6 and at 8
   pub intake-and-none : ForwardIs (forward (1 ∷ 3 ∷ []) 5) 3 0 (0 ∷ 1 ∷ 1 ∷ 1 ∷ [])
-  pub starts-of-both : forwardOf (versionsUsed 6) notEntered (1 ∷ 2 ∷ []) 9 (replicate 6 9) (replicate 4 9) .answer ≡ record { refusal = 0; count = 2; intake = 6 }
+  pub start-and-intake : forwardOf (versionsUsed 6) notEntered (1 ∷ 2 ∷ []) 9 (replicate 6 9) (replicate 4 9) .answer
+      ≡ record { refusal = 0; count = 2; intake = 6 }
+  pub two-starts : map twoStarts ((0 ∷ 1 ∷ []) ∷ (1 ∷ 0 ∷ []) ∷ []) ≡ forwardTo 2 6 (0 ∷ 0 ∷ 1 ∷ 1 ∷ []) (1 ∷ 1 ∷ []) ∷ forwardTo 2 6 (0 ∷ 0 ∷ 1 ∷ 1 ∷ []) (1 ∷ 1 ∷ []) ∷ []
   pub earliest-of : map earliest ([] ∷ (7 ∷ []) ∷ (3 ∷ 5 ∷ 4 ∷ []) ∷ (5 ∷ 3 ∷ 4 ∷ []) ∷ (5 ∷ 4 ∷ 3 ∷ []) ∷ []) ≡ 0 ∷ 7 ∷ 3 ∷ 3 ∷ 3 ∷ []
   -- each from its own intake, and not all from the earliest, at time 0, from which object 0 reaches subject 1
   pub own-intakes : writtenForward (0 ∷ 2 ∷ []) ≡ forwardTo 2 0 (0 ∷ 0 ∷ 1 ∷ 1 ∷ []) (1 ∷ 0 ∷ 1 ∷ [])
@@ -69,7 +80,7 @@ pub record MemberCases : Type 0 where
   pub empty-work-short : forwardIn 6 4 [] 5 ≡ forwardRefused 14 6 4
   pub empty-marks-short : forwardIn 7 3 [] 5 ≡ forwardRefused 14 7 3
   -- "One undeclared member gives 5", at the beginning, in the middle and at the end; nothing is written
-  pub undeclared : refusedIn ((4 ∷ 1 ∷ 2 ∷ []) ∷ (1 ∷ 4 ∷ 2 ∷ []) ∷ (1 ∷ 2 ∷ 4 ∷ []) ∷ (1 ∷ 1 ∷ 4294967295 ∷ []) ∷ [])
+  pub undeclared : tracesIn ((4 ∷ 1 ∷ 2 ∷ []) ∷ (1 ∷ 4 ∷ 2 ∷ []) ∷ (1 ∷ 2 ∷ 4 ∷ []) ∷ (1 ∷ 1 ∷ 4294967295 ∷ []) ∷ [])
       ≡ forwardRefused 5 8 5 ∷ forwardRefused 5 8 5 ∷ forwardRefused 5 8 5 ∷ forwardRefused 5 8 5 ∷ []
   -- "A trace checks 16, 5, 14."
   pub list-16-5 : forwardOf (used 1) unsound (1 ∷ 2 ∷ []) 5 [] [] .answer ≡ record { refusal = 16; count = 0; intake = 0 }

@@ -1,4 +1,4 @@
--- The loop over the edges that enter marked versions: by k edges, with b, those still marked have the least of all.
+-- The loop over the edges that enter marked versions: the least of b and of the intakes, by k edges, of those still marked is the least of all.
 use Prim.Native.Nat.{ℕ, suc, _-_, min, _≤_, _<_}
 use native.Mathlib.Omega.{arith}
 use mathlib.Core.Path.{_≡_, sym, _∙_, subst}

@@ -4,7 +4,7 @@ use native.Mathlib.Omega.{arith}
 use native.Mathlib.Decide.{ℕ-discrete}
 use mathlib.Core.Path.{_≡_, refl, sym, _∙_, subst}
 use mathlib.Core.Logic.{_⊎_, inl, inr}
-use mathlib.Core.Bool.{Bool, true, false, _&&_, cond}
+use mathlib.Core.Bool.{Bool, true, false, _&&_, cond, false≢true}
 use mathlib.Core.List.{List}
 use lib.ListN.{getD, set}
 use lib.Seq.{getD-set-same, getD-set-other}
@@ -15,6 +15,7 @@ use Rattle.rows.specs.declared.EdgeRow.{EdgeRow}
 use Rattle.closure.specs.Arcs.{Marked}
 use Rattle.closure.proofs.Marks.{marked-in}
 use Rattle.trace.specs.Intake.{entersBy, lastIntake, entersMarked, upToEntering, LeastIntake}
+use Rattle.trace.proofs.IntakeLoop.{enters-not}
 use Rattle.trace.proofs.Least.{least-same, least-more}
 
 module _ (m : List ℕ) (t : ℕ) (e : EdgeRow) where
@@ -24,12 +25,8 @@ module _ (m : List ℕ) (t : ℕ) (e : EdgeRow) where
     where
       go : (x : Bool) → eqb (getD m (e .to .0) 0) 1 ≡ x → (y : Bool) → leb (e .time) t ≡ y → x && y ≡ true → Marked m (e .to .0) × ((eqb (e .to .0) (e .to .0) && leb (e .time) t) ≡ true)
       go true p true q z = (eqb-true _ _ p, rw (eq-eqb (e .to .0) (e .to .0) refl, q))
-      go true p false q z = absurd (let y : _≡_ {A = ℕ} 0 1 = cc in omega arith)
-      go false p y q z = absurd (let y : _≡_ {A = ℕ} 0 1 = cc in omega arith)
-
-  enters-not : (v : ℕ) → (e .to .0 ≡ v → ⊥) → entersBy v t e ≡ false
-  unfolding entersBy
-  enters-not v h = rw (ne-eqb (e .to .0) v h)
+      go true p false q z = absurd (false≢true z)
+      go false p y q z = absurd (false≢true z)
 
   enters-late : entersMarked m t e ≡ false → (v : ℕ) → Marked m v → entersBy v t e ≡ false
   unfolding entersMarked entersBy
@@ -70,7 +67,7 @@ module _ (W : ℕ → VersionRow) (E : ℕ → EdgeRow) (t : ℕ) where
     least-taken k b r h o =
         least-more (Marked m) (Marked (set m x 0)) (λ v. lastIntake W E v t k) (λ v. lastIntake W E v t (suc k)) b r
         (λ v q. sym (getD-set-other m x v 0 0 (apart v q)) ∙ q)
-        (λ v q. intake-before k v (enters-not m t (E k) v (λ z. apart v q (sym z))))
+        (λ v q. intake-before k v (sym (enters-not v t (E k) (λ z. apart v q (sym z)))))
         x (is .0) (λ v p. part v p (ℕ-discrete v x))
         (subst (λ y. LeastIntake W E t k (set m x 0) (min b y) r) (sym (intake-here k x (is .1))) o)
       where

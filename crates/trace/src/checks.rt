@@ -21,7 +21,7 @@ pub fn any_undeclared(e: u32, members: &[u32]) -> bool
     false
 }
 
-// The first of them, where it is known whether one of the entities is undeclared.
+// The first of 16, 5 and 14 that holds, where it is known whether one of the entities is undeclared.
 pub fn check_trace(
     c: Counts,
     entities: &[u32],

@@ -145,8 +145,8 @@ fn earliest_intake(
     r
 }
 
-// The earliest intake of the members, 0 if there are none. One alone is looked for by its number, which is faster than by marks. Of
-// sound tables no intake is after the last time.
+// The earliest intake of the members, 0 if there are none. The start version of one member alone is compared by number, which is
+// faster than by marks. Of sound tables no intake is after the last time.
 pub fn intake(
     c: Counts,
     entities: &[u32],

@@ -134,7 +134,8 @@ fn close_on(versions: &[u32], n: u32, edges: &[u32], d: u32, work: &mut [u8])
 // adds no mark no later one does.
 pub fn mark_on(c: Counts, versions: &[u32], edges: &[u32], work: &mut [u8])
     requires { ⌜ (c .versions ≤ versionCapacity (now versions)) × (c .edges ≤ edgeCapacity (now edges)) × (c .versions ≡ length (now work)) ⌝ }
-    ensures { λ _. ⌜ now (work .exit) ≡ markedOn (versionAt (now (versions .entry))) (edgeAt (now (edges .entry))) (c .versions) (c .edges) (now (work .entry)) ⌝ }
+    ensures { λ _. ⌜ now (work .exit) ≡ markedOn (versionAt (now (versions .entry))) (edgeAt (now (edges .entry))) (c .versions) (c .edges)
+        (now (work .entry)) ⌝ }
 {
     if first_on(versions, c.versions, edges, c.edges, work) {
         close_on(versions, c.versions, edges, c.edges, work);
