@@ -66,7 +66,8 @@ pub record MemberCases : Type 0 where
   pub intake-and-none : ForwardIs (forward (1 ∷ 3 ∷ []) 5) 3 0 (0 ∷ 1 ∷ 1 ∷ 1 ∷ [])
   pub start-and-intake : forwardOf (versionsUsed 6) notEntered (1 ∷ 2 ∷ []) 9 (replicate 6 9) (replicate 4 9) .answer
       ≡ record { refusal = 0; count = 2; intake = 6 }
-  pub two-starts : map twoStarts ((0 ∷ 1 ∷ []) ∷ (1 ∷ 0 ∷ []) ∷ []) ≡ forwardTo 2 6 (0 ∷ 0 ∷ 1 ∷ 1 ∷ []) (1 ∷ 1 ∷ []) ∷ forwardTo 2 6 (0 ∷ 0 ∷ 1 ∷ 1 ∷ []) (1 ∷ 1 ∷ []) ∷ []
+  pub two-starts : map twoStarts ((0 ∷ 1 ∷ []) ∷ (1 ∷ 0 ∷ []) ∷ [])
+      ≡ forwardTo 2 6 (0 ∷ 0 ∷ 1 ∷ 1 ∷ []) (1 ∷ 1 ∷ []) ∷ forwardTo 2 6 (0 ∷ 0 ∷ 1 ∷ 1 ∷ []) (1 ∷ 1 ∷ []) ∷ []
   pub earliest-of : map earliest ([] ∷ (7 ∷ []) ∷ (3 ∷ 5 ∷ 4 ∷ []) ∷ (5 ∷ 3 ∷ 4 ∷ []) ∷ (5 ∷ 4 ∷ 3 ∷ []) ∷ []) ≡ 0 ∷ 7 ∷ 3 ∷ 3 ∷ 3 ∷ []
   -- each from its own intake, and not all from the earliest, at time 0, from which object 0 reaches subject 1
   pub own-intakes : writtenForward (0 ∷ 2 ∷ []) ≡ forwardTo 2 0 (0 ∷ 0 ∷ 1 ∷ 1 ∷ []) (1 ∷ 0 ∷ 1 ∷ [])
