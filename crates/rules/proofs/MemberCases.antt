@@ -8,6 +8,7 @@ unfolding computed
 memberCases = record {
   studies = (refl, refl);
   two = (refl, refl);
+  two-whole = refl;
   two-turned = refl;
   two-repeated = refl;
   longer-than-the-entities = (refl, refl);

@@ -49,8 +49,9 @@ pub record MemberCases : Type 0 where
   pub studies : ForwardIs (forward (0 ∷ 3 ∷ []) 4) 4 0 (1 ∷ 1 ∷ 1 ∷ 1 ∷ [])
   pub two : ForwardIs (forward (1 ∷ 2 ∷ []) 6) 2 5 (0 ∷ 1 ∷ 1 ∷ 0 ∷ [])
   -- "Repeats change no mark", and the order does not matter
-  pub two-turned : forward (2 ∷ 1 ∷ []) 6 ≡ forward (1 ∷ 2 ∷ []) 6
-  pub two-repeated : forward (2 ∷ 1 ∷ 1 ∷ 2 ∷ 2 ∷ 1 ∷ []) 6 ≡ forward (1 ∷ 2 ∷ []) 6
+  pub two-whole : forward (1 ∷ 2 ∷ []) 6 ≡ forwardTo 2 5 (0 ∷ 0 ∷ 1 ∷ 0 ∷ 1 ∷ 9 ∷ []) (0 ∷ 1 ∷ 1 ∷ 0 ∷ 9 ∷ [])
+  pub two-turned : forward (2 ∷ 1 ∷ []) 6 ≡ forwardTo 2 5 (0 ∷ 0 ∷ 1 ∷ 0 ∷ 1 ∷ 9 ∷ []) (0 ∷ 1 ∷ 1 ∷ 0 ∷ 9 ∷ [])
+  pub two-repeated : forward (2 ∷ 1 ∷ 1 ∷ 2 ∷ 2 ∷ 1 ∷ []) 6 ≡ forwardTo 2 5 (0 ∷ 0 ∷ 1 ∷ 0 ∷ 1 ∷ 9 ∷ []) (0 ∷ 1 ∷ 1 ∷ 0 ∷ 9 ∷ [])
   pub longer-than-the-entities : ForwardIs (forward (0 ∷ 1 ∷ 2 ∷ 3 ∷ 3 ∷ 2 ∷ 1 ∷ 0 ∷ []) 7) 4 0 (1 ∷ 1 ∷ 1 ∷ 1 ∷ [])
   -- every member counts, wherever it stands: the montage's own marks and intake
   pub first-counts : ForwardIs (forward (3 ∷ 2 ∷ 2 ∷ []) 6) 3 0 (0 ∷ 1 ∷ 1 ∷ 1 ∷ [])
