@@ -26,6 +26,19 @@ impl Counts {
 pub struct BatchAnswer {
     pub refusal: u32,
     pub taken: u32,
+    /// The edges tried for the events taken in.
+    pub tried: u64,
+}
+
+impl BatchAnswer {
+    /// The answer of a batch that took nothing in.
+    pub fn nothing_taken(refusal: u32) -> BatchAnswer {
+        BatchAnswer {
+            refusal,
+            taken: 0,
+            tried: 0,
+        }
+    }
 }
 
 #[derive(Clone, Copy, Debug, PartialEq, Eq)]

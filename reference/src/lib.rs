@@ -35,6 +35,7 @@ pub mod random;
 pub mod record;
 pub mod refusal;
 pub mod rows;
+pub mod search;
 pub mod sound;
 pub mod table_view;
 pub mod tables;

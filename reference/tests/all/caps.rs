@@ -69,6 +69,7 @@ fn edge_rows_end_at_262144() {
         .bytes();
     let answer = tables.batch(&file);
     assert_eq!((answer.refusal, answer.taken), (12, 2));
+    assert_eq!(answer.tried, 262_143 + 1);
     assert_eq!(tables.counts.edges, 262_144);
     let newest = tables.view().edge(262_143);
     assert_eq!(newest.numbers(), [2, 0, 1, 300_000, 2, 300_001]);

@@ -6,6 +6,8 @@ mod buffers;
 mod caps;
 mod causal_paths;
 mod edge_counts;
+mod edges_tried;
+mod edges_tried_sums;
 mod generators;
 mod kept_log;
 mod listing;

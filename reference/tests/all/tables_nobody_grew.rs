@@ -232,7 +232,8 @@ fn the_newest_edge_that_makes_it_a_repeat_counts_it() {
     let before = several_edges_to_repeat();
     let mut tables = before.clone();
     let file = FileBuilder::new().load(0, 1, 11).read(0, 1, 13).bytes();
-    assert_eq!(tables.batch(&file).refusal, 0);
+    let answer = tables.batch(&file);
+    assert_eq!((answer.refusal, answer.tried), (0, 3 + 3));
     assert_eq!((tables.counts.accepted, tables.counts.last), (17, 13));
     assert_eq!(tables.view().edge(2), counted(1, 2, EXECVE, 4, 4, 13));
     assert_only_edge_changed(tables, &before, 2);
@@ -242,7 +243,8 @@ fn the_newest_edge_that_makes_it_a_repeat_counts_it() {
 fn an_edge_kept_since_is_the_newest() {
     let mut tables = several_edges_to_repeat();
     let file = FileBuilder::new().execve(0, 1, 11).read(0, 1, 13).bytes();
-    assert_eq!(tables.batch(&file).refusal, 0);
+    let answer = tables.batch(&file);
+    assert_eq!((answer.refusal, answer.tried), (0, 1));
     let edges = [2, 5].map(|number| tables.view().edge(number));
     let kept = counted(1, 3, EXECVE, 11, 2, 13);
     assert_eq!(edges, [counted(1, 2, EXECVE, 4, 2, 5), kept]);

@@ -5,7 +5,7 @@ use reference::full_list::StandsFor;
 use reference::rows::NO_VERSION;
 use reference::{
     worked_declarations, worked_file, BackwardAnswer, BatchAnswer, Counts, FileBuilder,
-    ForwardAnswer, LogAnswer, TableLengths, Tables,
+    ForwardAnswer, FullList, LogAnswer, TableLengths, Tables,
 };
 
 const COUNTS: Counts = Counts {
@@ -57,6 +57,10 @@ fn assert_forward(members: &[u32], time: u32, expected: [u8; 4], intake: u32) {
     let of_list = worked_list().forward(members, time, 5, &mut marks);
     assert_eq!((of_list, marks), (answer, expected));
 }
+
+/// The edges tried for each event: none is there at 1; at 2, 5 and 6 there is
+/// no hit; at 3 and 7 the hit is the second newest edge, at 4 the newest.
+const TRIED: [u64; 7] = [0, 1, 2, 1, 2, 3, 2];
 
 /// The worked file into tables with this many edge rows.
 fn with_edge_rows(rows: usize) -> (BatchAnswer, Tables) {
@@ -131,6 +135,7 @@ fn p9_first_event_at_time_0_and_1() {
 fn p10_four_edge_rows() {
     let (answer, tables) = with_edge_rows(4);
     assert_eq!((answer.refusal, answer.taken), (0, 11));
+    assert_eq!((answer.tried, with_edge_rows(8).0), (11, answer));
     assert_eq!(tables.counts, COUNTS);
 }
 
@@ -138,6 +143,7 @@ fn p10_four_edge_rows() {
 fn p11_three_edge_rows() {
     let (answer, tables) = with_edge_rows(3);
     assert_eq!((answer.refusal, answer.taken), (12, 9));
+    assert_eq!(answer.tried, 6);
     let expected = Counts {
         edges: 3,
         accepted: 5,
@@ -147,13 +153,33 @@ fn p11_three_edge_rows() {
     assert_eq!(tables.counts, expected);
 }
 
+/// The file up to each event, on tables and on the full list, and each event
+/// in a batch of its own.
+#[test]
+fn edges_tried_for_each_event() {
+    let file = worked_file();
+    let mut alone = fresh(10);
+    alone.batch(&worked_declarations().bytes());
+    for events in 1..=TRIED.len() {
+        let (last, end) = (8 + 12 * (3 + events), 8 + 12 * (4 + events));
+        let sum: u64 = TRIED[..events].iter().sum();
+        let answer = fresh(10).batch(&file[..end]);
+        assert_eq!(answer.tried, sum);
+        let capacity = fresh(10).view().capacity();
+        assert_eq!(FullList::new().batch(capacity, &file[..end]), answer);
+        let event = [&file[..8], &file[last..end]].concat();
+        assert_eq!(alone.batch(&event).tried, TRIED[events - 1]);
+    }
+    assert_eq!(TRIED.iter().sum::<u64>(), 11);
+}
+
 #[test]
 fn empty_file_and_header_alone() {
     let mut tables = fresh(10);
     let empty = tables.batch(&[]);
-    assert_eq!((empty.refusal, empty.taken), (1, 0));
+    assert_eq!((empty.refusal, empty.taken, empty.tried), (1, 0, 0));
     let header = tables.batch(&FileBuilder::new().bytes());
-    assert_eq!((header.refusal, header.taken), (0, 0));
+    assert_eq!((header.refusal, header.taken, header.tried), (0, 0, 0));
     assert_eq!(tables, fresh(10));
 }
 
@@ -189,6 +215,7 @@ fn split_into_any_two_files() {
         let second = tables.batch(&[&file[..8], rest].concat());
         assert_eq!((first.refusal, first.taken), (0, records as u32));
         assert_eq!((second.refusal, second.taken), (0, 11 - records as u32));
+        assert_eq!(first.tried + second.tried, 11);
         assert_eq!(tables, worked_tables());
     }
 }

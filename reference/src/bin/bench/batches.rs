@@ -52,6 +52,8 @@ fn whole_capacity() -> Capacity {
 pub fn from_fresh(name: &str, goal: Goal, file: &[u8], times: u32) -> Line {
     let (mut tables, mut peer) = (largest_tables(), Trail::new());
     let capacity = whole_capacity();
+    let answer = peer.batch(capacity, file);
+    assert_eq!(library::batch(&mut tables, file), answer);
     let mean = |batch: &mut dyn FnMut() -> Duration| {
         let total: Duration = (0..times).map(|_| batch()).sum();
         total / times
@@ -184,6 +186,11 @@ pub fn batches_on(
     let FullTrail { tables, peer } = trail;
     let capacity = tables.view().capacity();
     let before = tables.clone();
+    let mut after = peer.clone();
+    for file in files {
+        let answer = after.batch(capacity, file);
+        assert_eq!(library::batch(tables, file), answer);
+    }
     let all = |take: &mut dyn FnMut(&[u8]) -> BatchAnswer| {
         let times = files.iter().map(|file| taken_whole(timed(|| take(file))));
         times.sum::<Duration>()
@@ -207,10 +214,6 @@ pub fn batches_on(
         }),
     ]);
     let events = tables.counts.accepted - before.counts.accepted;
-    let mut after = peer.clone();
-    for file in files {
-        after.batch(capacity, file);
-    }
     assert_same_rows(tables, &after);
     *tables = before;
     Line {

@@ -9,6 +9,7 @@ mod growth;
 mod library;
 mod line;
 mod measure;
+mod readers;
 mod real;
 mod report;
 mod studies;
@@ -18,6 +19,7 @@ mod worst;
 use batches::{from_fresh, FullTrail, FULL, MILLION, STAGERS};
 use growth::Growth;
 use line::{Goal, Line};
+use readers::{FEW_OBJECTS, MANY_OBJECTS};
 use std::process::ExitCode;
 use std::thread;
 
@@ -56,6 +58,18 @@ fn fresh_trails() -> Vec<Line> {
         from_fresh("stagers", Goal::RepeatBatch, &STAGERS.file(), 1),
         from_fresh("most events", Goal::Batch, &MILLION.file(), 1),
         from_fresh("both tables filled", Goal::Batch, &FULL.file(), 1),
+        from_fresh(
+            "20 objects read by 100 subjects",
+            Goal::None,
+            &FEW_OBJECTS.over_and_over(),
+            1,
+        ),
+        from_fresh(
+            "1,000 objects read by 2,048 subjects",
+            Goal::None,
+            &MANY_OBJECTS.once_each(),
+            1,
+        ),
     ]
 }
 

@@ -2,7 +2,8 @@
 //! and every number and byte of every lent buffer, guard values included.
 //!
 //! `compare [SEED] [ROUNDS]` ends with status 1 at the first difference, or if
-//! a refusal that can occur never did.
+//! a refusal that can occur never did, or no batch tried edges with it, or none
+//! tried more than 32 bits can say.
 
 mod calls;
 mod caps;
@@ -20,6 +21,7 @@ mod round_trip;
 mod sections;
 mod tables;
 mod tally;
+mod tried;
 mod worked_trail;
 
 use comparison::Comparison;
@@ -121,7 +123,7 @@ impl Run {
         }
     }
 
-    /// Prints what was compared. It is an error if some refusal never came.
+    /// Prints what was compared. It is an error if some answer never came.
     fn finish(self) -> Result<(), String> {
         for (name, calls) in &self.calls {
             println!("{calls:>9} calls: {name}");
@@ -132,7 +134,7 @@ impl Run {
             println!("no difference");
             Ok(())
         } else {
-            Err(format!("never refused with: {}", never.join(", ")))
+            Err(format!("never seen: {}", never.join(", ")))
         }
     }
 }

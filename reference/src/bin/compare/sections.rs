@@ -2,7 +2,7 @@
 
 use crate::comparison::{Compared, Comparison};
 use crate::{caps, every_file, every_table, faults, lengths, lists, long_files};
-use crate::{members, tables, worked_trail};
+use crate::{members, tables, tried, worked_trail};
 use reference::Random;
 
 /// One kind of calls, made from a seed.
@@ -60,7 +60,7 @@ pub const EACH_ROUND: [Section; 11] = [
 ];
 
 /// Made once.
-pub const ONCE: [Section; 10] = [
+pub const ONCE: [Section; 11] = [
     Section {
         name: "the worked trail",
         run: worked_trail::worked_trail,
@@ -84,6 +84,10 @@ pub const ONCE: [Section; 10] = [
     Section {
         name: "every sound table of few rows",
         run: every_table::every_table,
+    },
+    Section {
+        name: "edges tried, past 32 bits",
+        run: tried::past_32_bits,
     },
     Section {
         name: "each table at its cap",
