@@ -2,6 +2,7 @@
  * The worked trail of document 01 through the C calls: its event file is taken in from bytes, then traced both ways and written
  * out as the kept log. Prints what the calls give, and fails where that differs from the document.
  */
+#include <inttypes.h>
 #include <stdio.h>
 #include <string.h>
 
@@ -70,7 +71,7 @@ static void take_in(void)
         4, 2, 2, 6, 1, 6,
     };
     slt_batch_answer answer = slt_batch(&counts, TABLES, file, sizeof file);
-    printf("batch refusal %u taken %u\n", answer.refusal, answer.taken);
+    printf("batch refusal %u taken %u tried %" PRIu64 "\n", answer.refusal, answer.taken, answer.tried);
     printf("trail %u %u %u %u %u\n", counts.entities, counts.versions, counts.edges, counts.accepted, counts.last);
     for (uint32_t k = 0; k < counts.edges; k++) {
         const uint32_t *row = edges + SLT_EDGE_WIDTH * k;
@@ -78,6 +79,7 @@ static void take_in(void)
             row[0], row[1], row[2], row[3], row[4], row[5]);
     }
     expect("all eleven records are taken in", answer.refusal == SLT_NOT_REFUSED && answer.taken == 11);
+    expect("0, 1, 2, 1, 2, 3 and 2 edges are tried", answer.tried == 11);
     expect("the counts",
         counts.entities == 4 && counts.versions == 5 && counts.edges == 4 && counts.accepted == 7 && counts.last == 7);
     expect("the edges", memcmp(edges, rows, sizeof rows) == 0);
@@ -138,8 +140,9 @@ static void write_log(void)
     expect("the kept log has 104 bytes", answer.refusal == SLT_NOT_REFUSED && answer.length == 104);
     memcpy(kept, edges, sizeof kept);
     slt_batch_answer batch = slt_batch(&again, TABLES, log_bytes, answer.length);
-    printf("kept log again refusal %u taken %u edges %u\n", batch.refusal, batch.taken, again.edges);
+    printf("kept log again refusal %u taken %u tried %" PRIu64 " edges %u\n", batch.refusal, batch.taken, batch.tried, again.edges);
     expect("the kept log is taken in", batch.refusal == SLT_NOT_REFUSED && batch.taken == 8 && again.edges == counts.edges);
+    expect("no edge is hit: 0, 1, 2 and 3 are tried", batch.tried == 6);
     for (uint32_t k = 0; k < again.edges; k++) {
         const uint32_t *row = edges + SLT_EDGE_WIDTH * k;
         expect("its edges are those kept", memcmp(row, kept + SLT_EDGE_WIDTH * k, 4 * sizeof row[0]) == 0);
@@ -164,8 +167,8 @@ static void refused_batch(void)
 {
     slt_counts before = counts;
     slt_batch_answer answer = slt_batch(&counts, TABLES, NULL, 0);
-    printf("empty file refusal %u taken %u\n", answer.refusal, answer.taken);
-    expect("an empty file is refused", answer.refusal == SLT_NOT_EVENT_FILE && answer.taken == 0);
+    printf("empty file refusal %u taken %u tried %" PRIu64 "\n", answer.refusal, answer.taken, answer.tried);
+    expect("an empty file is refused", answer.refusal == SLT_NOT_EVENT_FILE && answer.taken == 0 && answer.tried == 0);
     expect("the counts stay", memcmp(&before, &counts, sizeof before) == 0);
 }
 

@@ -73,5 +73,6 @@ determined = record {
   answer = λ rs t file rs′ a a′ g g′.
       let p : a .refusal ≡ a′ .refusal = g .refusal ∙ sym (g′ .refusal) in
       let q : a .taken ≡ a′ .taken = omega (arith, taken-length rs t file rs′ a g, taken-length rs t file rs′ a′ g′) in
-      λ i. record { refusal = p i; taken = q i };
+      let w : a .tried ≡ a′ .tried = omega (arith, g .tried, g′ .tried) in
+      λ i. record { refusal = p i; taken = q i; tried = w i };
 }

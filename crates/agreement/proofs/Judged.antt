@@ -1,10 +1,11 @@
--- Two trails with the same counts and rows in use: a record is refused alike, and decided alike.
+-- Two trails with the same counts and rows in use: a record is refused alike, and decided alike, and as many edges are tried for it.
 use Prim.Native.Nat.{ℕ, zero, suc, _<_}
 use native.Mathlib.Omega.{arith}
 use mathlib.Core.Path.{_≡_, refl, sym, _∙_, ap}
 use mathlib.Core.Bool.{Bool, true, false, _&&_, _||_, cond}
 use lib.Dec.{leb, eqb}
 use borrow.Author.Tests.{leb-false}
+use Rattle.refusals.specs.declared.Checked.the-variants.{Passed}
 use Rattle.refusals.specs.Refusals.{firstOf}
 use Rattle.rows.specs.declared.Counts.{Counts}
 use Rattle.rows.specs.declared.EntityRow.{EntityRow}
@@ -16,8 +17,9 @@ use Rattle.record.specs.declared.Record.the-variants as records
 use Rattle.rules.specs.declared.Found.the-variants.{Nothing, At}
 use Rattle.rules.specs.Trail.{Capacity, Trail, latestOf}
 use Rattle.rules.specs.Decide.{goesTo, newestTo, leaves, folds, repeatOf, hasOutgoing, decide, decisionOf, edgeNo}
-use Rattle.rules.specs.Record.{declarationRefusals, earlyRefusals, roomRefusals, eventRefusals, refusalOf}
+use Rattle.rules.specs.Record.{declarationRefusals, earlyRefusals, roomRefusals, eventRefusals, refusalOf, toHit, triedFor}
 use Rattle.soundness.specs.Facts.{RowFacts}
+use Rattle.soundness.proofs.Taken.{event-taken}
 use Rattle.closure.specs.Same.{SameRows}
 
 -- The searches read only the edges below the count, and the versions that these enter
@@ -66,6 +68,10 @@ module _ {T T′ : Trail} (q : T .counts ≡ T′ .counts) (s : SameRows T T′)
     unfolding decisionOf
     decision-same = λ j. decide (repeat-same j) (gives-same j)
 
+    tried-event : triedFor T (records.Event e) ≡ triedFor T′ (records.Event e)
+    unfolding triedFor
+    tried-event = λ j. cond (folds (e .kind)) (toHit (s .edges j) (repeat-same j)) 0
+
     -- what the refusals of an event read of a trail
     refused-same : (cap : Capacity) → firstOf (eventRefusals cap T e (decisionOf T e)) ≡ firstOf (eventRefusals cap T′ e (decisionOf T′ e))
     unfolding earlyRefusals roomRefusals eventRefusals
@@ -83,3 +89,8 @@ module _ {T T′ : Trail} (q : T .counts ≡ T′ .counts) (s : SameRows T T′)
   unfolding refusalOf
   refusal-same cap (records.Declaration d) = ap (λ (c : Counts). firstOf (declarationRefusals cap c d)) q
   refusal-same cap (records.Event e) = undeclared-same cap e _ refl _ refl
+
+  pub tried-same : (cap : Capacity) (r : Record) → refusalOf cap T r ≡ Passed → triedFor T r ≡ triedFor T′ r
+  unfolding refusalOf triedFor
+  tried-same cap (records.Declaration d) h = refl
+  tried-same cap (records.Event e) h = let z = event-taken cap T e h in tried-event e (z .source-in) (z .target-in)

@@ -1,5 +1,5 @@
 -- Each wrong answer contradicts the claim: the worked list of calls has one answer (`WorkedAnswers`), and it is another.
-use Prim.Native.Nat.{ℕ}
+use Prim.Native.Nat.{ℕ, _+_}
 use native.Mathlib.Omega.{arith}
 use mathlib.Core.Path.{_≡_, refl, sym, _∙_, ap}
 use mathlib.Core.Bool.{Bool, true, false, cond}
@@ -16,7 +16,9 @@ use Rattle.rows.specs.declared.VersionRow.{VersionRow}
 use Rattle.rows.specs.declared.EdgeRow.{EdgeRow}
 use Rattle.rules.specs.declared.BatchAnswer.{BatchAnswer}
 use Rattle.rules.specs.declared.BackwardAnswer.{BackwardAnswer}
-use Rattle.rules.specs.PlainList.{worked}
+use Rattle.rules.specs.PlainList.{worked, triedOver}
+use Rattle.rules.specs.Calls.{plainAfter}
+use Rattle.rules.specs.Worked.{room, file}
 use Rattle.rules.specs.StandsFor.{standsFor, lastTime}
 use Rattle.rules.specs.Backward.{bufferChecks, traceRefusals}
 use Rattle.rules.specs.Members.{IsEarliest}
@@ -25,7 +27,8 @@ use Rattle.rules.proofs.Computed.{computed}
 use Rattle.rules.proofs.MemberCases.{memberCases}
 use Rattle.rules.proofs.Members.{earliest-one}
 use Rattle.closure.proofs.Checked.{undeclared-refused}
-use Rattle.agreement.specs.Refuted.{workedPlain, NoAnswer, Refuted}
+use Rattle.agreement.specs.Demand2.{Answered}
+use Rattle.agreement.specs.Refuted.{workedCalls, workedPlain, NoAnswer, Refuted}
 use Rattle.agreement.proofs.WorkedAnswers.{rows, entities-are, versions-are, edges-are, accepted-are, last-is, stager-row, report-version, edge-at-1, edge-at-6, answer-is, p4-count, four, not-refused, log-not-refused, backward-is, forward-is}
 use Rattle.agreement.proofs.NoEdge.{no-edge-traced}
 use Rattle.agreement.proofs.LongerPaths.{montage-back, study-forward, montage-forward}
@@ -66,6 +69,14 @@ execves-first = refl
 execves-last : lastTime (standsFor execves 1) ≡ 3
 unfolding computed
 execves-last = refl
+
+-- for the read, the newest edge alone is tried
+execves-tries : triedOver execves ≡ triedOver [] + 1
+unfolding computed
+execves-tries = refl
+
+tries : (a : BatchAnswer) → Answered [] (room 8) (file 1) (plainAfter (workedCalls 8)) a → a .tried ≡ 11
+tries a g = ap (λ (z : BatchAnswer). z .tried) (answer-is 8 a g ∙ rows .p1-answer)
 
 eleven : (k : ℕ) → (k ≡ 11 → ⊥) → NoAnswer 8 (λ a. a .taken ≡ k)
 eleven k n a w g = n (sym w ∙ ap (λ (z : BatchAnswer). z .taken) (answer-is 8 a g ∙ rows .p1-answer))
@@ -135,10 +146,20 @@ refuted = record {
   refused-for-nothing = λ a w g. w (ap (λ (z : BatchAnswer). z .refusal) (answer-is 8 a g ∙ rows .p1-answer));
   refused-for-another = λ a w g. w (ap (λ (z : BatchAnswer). z .refusal) (answer-is 3 a g ∙ rows .p11));
   more-than-the-file = eleven 12 (λ q. omega arith);
+  hit-not-counted = λ a w g. omega (arith, tries a g);
+  tried-from-the-oldest = λ a w g. omega (arith, tries a g);
+  all-tried = λ a w g. omega (arith, tries a g);
+  tried-free = λ a w g. w (tries a g);
+  refused-tried = λ a w g. omega (arith, ap (λ (z : BatchAnswer). z .tried) (answer-is 3 a g ∙ rows .p11));
+  execves-tried = λ t file a w g. omega (arith, g .tried, execves-tries);
   gain-dropped = λ hs q w g. let k = time-6-kept hs q g in w (k .0) (k .1) (k .2);
   log-always-refused = λ c t out k l w a. w (a .refusal ∙ log-not-refused out l);
   log-of-no-event = λ b w a. omega (arith, a .same .edges, ap (λ (z : Counts). z .edges) (rows .p1-counts));
-  log-refused = λ b w a. w (ap (λ (z : BatchAnswer). z .refusal) (a .answer));
+  log-refused = λ b w a. w (a .refusal);
+  log-taken-free = λ b w a.
+      let x = ap (λ (z : Counts). z .entities) (rows .p1-counts) in
+      let y = ap (λ (z : Counts). z .edges) (rows .p1-counts) in
+      w (omega (arith, a .taken));
   log-counts-kept = λ b w a. w (a .counts-one 0 (omega (arith, ap (λ (z : Counts). z .edges) (rows .p1-counts))));
   log-lasts-kept = λ b w a. w (a .lasts-own 0 (omega (arith, ap (λ (z : Counts). z .edges) (rows .p1-counts))));
   log-other-trace = λ b w a. w (ap (λ (z : BackwardAnswer). z .count) (a .calls .backward-answer 2 6 (replicate 6 9) (replicate 5 9)) ∙ p4-count);

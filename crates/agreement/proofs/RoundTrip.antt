@@ -41,7 +41,7 @@ use Rattle.agreement.proofs.Relogged.{relogged}
 use Rattle.agreement.proofs.Again.{Before, Regrown, regrown}
 use Rattle.agreement.proofs.TracesAgain.{backward-again, forward-again, intake-again}
 use Rattle.agreement.proofs.SameCalls.{SameTraces, same-calls}
-use Rattle.agreement.proofs.TakenAll.{batch-all, batch-answer}
+use Rattle.agreement.proofs.TakenAll.{batch-all, batch-refusal, batch-taken}
 use Rattle.agreement.proofs.Log.{events-same, logRecords-reverse}
 
 -- The checks of a writer over sound tables: it is refused with 15, or passes
@@ -151,7 +151,8 @@ module _ (h : Held) (rs : List Record) (m : Matches h rs) (t : Tables) (l : Lent
         let y = batch-all lent file header R (again .by) q in
         let n : length (reverse R) ≡ T .counts .entities + T .counts .edges = ap length (sym turned) ∙ length-logRecords T in
         record {
-          answer = batch-answer lent file header R (again .by) q ∙ (λ j. record { refusal = 0; taken = n j });
+          refusal = batch-refusal lent file header R (again .by) q;
+          taken = batch-taken lent file header R (again .by) q ∙ n;
           same = same-traces _ _ y .trail;
           counts-one = λ k i. own-again _ _ y k i .0;
           lasts-own = λ k i. own-again _ _ y k i .1;

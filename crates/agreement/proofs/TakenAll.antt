@@ -4,15 +4,16 @@ use native.Mathlib.Omega.{arith}
 use mathlib.Core.Path.{_≡_, refl, _∙_, ap, subst}
 use mathlib.Core.List.{List, [], _∷_, reverse, reverseAux, reverse-reverse}
 use lib.ListN.{length}
+use Rattle.refusals.specs.declared.Checked.{Checked}
 use Rattle.refusals.specs.declared.Checked.the-variants.{Passed}
-use Rattle.refusals.specs.Refusals.{firstOf}
+use Rattle.refusals.specs.Refusals.{firstOf, numberOf}
 use Rattle.rows.specs.declared.Counts.{Counts}
 use Rattle.record.specs.declared.Record.{Record}
 use Rattle.record.specs.Header.{headerChecks}
 use Rattle.rules.specs.Trail.{Tables, Capacity, capacityOf, trailOf, freshCounts}
 use Rattle.rules.specs.Record.{refusalOf}
 use Rattle.rules.specs.PlainList.{worked}
-use Rattle.rules.specs.Batch.{Batched, contentsOf, takeIn, batchChecks, batchOf}
+use Rattle.rules.specs.Batch.{Ended, contentsOf, takeIn, batchChecks, endOf, batchOf}
 use Rattle.soundness.specs.Taken.{SortFits}
 use Rattle.soundness.proofs.Step.{fresh-sound}
 use Rattle.kept_log.specs.LogRecords.{wholly}
@@ -29,19 +30,19 @@ takenBy-passing : (cap : Capacity) (rs more : List Record) → TakenBy cap rs �
 takenBy-passing cap [] more a p = p
 takenBy-passing cap (r ∷ rs) more a p = takenBy-passing cap rs (r ∷ more) (a .1) (a .0, p)
 
-record AllTaken (cap : Capacity) (n : ℕ) (rs : List Record) (b : Batched) : Type 0 where
+record AllTaken (cap : Capacity) (n : ℕ) (rs : List Record) (b : Ended) : Type 0 where
   ready : Ready cap (b .counts) (b .tables) rs
-  answer : b .answer ≡ record { refusal = 0; taken = n }
+  checked : b .checked ≡ Passed
+  taken : b .taken ≡ n
 
 module _ (cap : Capacity) (w : Within cap) where
   takeIn-all : (c : Counts) (t : Tables) (rs : List Record) → Ready cap c t rs → (n : ℕ) (more : List Record) → Passing cap rs more
       → AllTaken cap (n + length more) (reverseAux more rs) (takeIn c t n more Passed)
   unfolding takeIn
-  takeIn-all c t rs y n [] p = record { ready = y; answer = λ j. record { refusal = 0; taken = (let q : n ≡ n + 0 = omega arith in q) j } }
+  takeIn-all c t rs y n [] p = record { ready = y; checked = refl; taken = omega arith }
   takeIn-all c t rs y n (r ∷ more) p =
       let z = takeIn-all _ _ (r ∷ rs) (ready-next cap w c t rs y r (p .0 .0) (p .0 .1)) (n + 1) more (p .1) in
-      let q : n + 1 + length more ≡ n + length (r ∷ more) = omega arith in
-      rw (checked-same cap w c t rs y r ∙ p .0 .1) (record { ready = z .ready; answer = z .answer ∙ (λ j. record { refusal = 0; taken = q j }) })
+      rw (checked-same cap w c t rs y r ∙ p .0 .1) (record { ready = z .ready; checked = z .checked; taken = omega (arith, z .taken) })
 
 fresh-ready : (t : Tables) → Ready (capacityOf t) freshCounts t []
 fresh-ready t = record {
@@ -63,17 +64,21 @@ fresh-ready t = record {
 
 module _ (t : Tables) (file : List ℕ) (h : firstOf (headerChecks file) ≡ Passed) (rs : List Record) (a : TakenBy (capacityOf t) rs)
     (q : contentsOf file ≡ wholly (reverse rs)) where
-  batch-passed : batchOf freshCounts t file ≡ takeIn freshCounts t 0 (reverse rs) Passed
-  unfolding batchOf batchChecks firstOf
+  batch-passed : endOf freshCounts t file ≡ takeIn freshCounts t 0 (reverse rs) Passed
+  unfolding endOf batchChecks firstOf
   batch-passed = rw (fresh-sound (capacityOf t) (trailOf freshCounts t) refl, h, q)
 
   taken-all : AllTaken (capacityOf t) (0 + length (reverse rs)) (reverse (reverse rs)) (takeIn freshCounts t 0 (reverse rs) Passed)
   taken-all = takeIn-all (capacityOf t) (capacity-within t) freshCounts t [] (fresh-ready t) 0 (reverse rs) (takenBy-passing (capacityOf t) rs [] a tt)
 
   pub batch-all : Ready (capacityOf t) (batchOf freshCounts t file .counts) (batchOf freshCounts t file .tables) rs
+  unfolding batchOf
   batch-all = rw batch-passed (subst (Ready (capacityOf t) _ _) (reverse-reverse rs) (taken-all .ready))
 
-  pub batch-answer : batchOf freshCounts t file .answer ≡ record { refusal = 0; taken = length (reverse rs) }
-  batch-answer =
-      let q : 0 + length (reverse rs) ≡ length (reverse rs) = omega arith in
-      ap (λ (b : Batched). b .answer) batch-passed ∙ taken-all .answer ∙ (λ j. record { refusal = 0; taken = q j })
+  pub batch-refusal : batchOf freshCounts t file .answer .refusal ≡ 0
+  unfolding batchOf
+  batch-refusal = rw (batch-passed, taken-all .checked)
+
+  pub batch-taken : batchOf freshCounts t file .answer .taken ≡ length (reverse rs)
+  unfolding batchOf
+  batch-taken = let q = taken-all .taken in rw batch-passed (omega arith)

@@ -13,7 +13,7 @@ use Rattle.rules.specs.Trail.{Tables, capacityOf, trailOf}
 use Rattle.rules.specs.Sound.{countSum}
 use Rattle.rules.specs.Batch.{contentsOf, batchOf}
 use Rattle.rules.specs.History.{accepted, keptEvents}
-use Rattle.rules.specs.PlainList.{worked, itemsOf, refusedBy}
+use Rattle.rules.specs.PlainList.{worked, itemsOf, triedOver, refusedBy}
 use Rattle.rules.specs.StandsFor.{standsFor, lastTime}
 use Rattle.rules.specs.Calls.{Call, batch, plainAfter}
 use Rattle.causality.specs.Statements.{Logged}
@@ -43,6 +43,8 @@ pub record Answered (rs : List Record) (t : Tables) (file : List ℕ) (rs′ : L
   pub refusal : a .refusal ≡ numberOf (refusedBy (capacityOf t) rs file)
   pub among : a .taken ≤ length (contentsOf file .records)
   pub grown : rs′ ≡ reverse (take (a .taken) (contentsOf file .records)) ++ rs
+  -- document 02, 2.3: how many edges were tried in the working for the records added
+  pub tried : triedOver rs′ ≡ triedOver rs + a .tried
 
 pub record Demand2 : Type 0 where
   pub holds : (cs : List Call) (c : Counts) (t : Tables) → LeftBy cs c t → Holds (plainAfter cs) c t

@@ -1,8 +1,8 @@
 -- Document 01, "Agreement": "These are shut out". The claims determine counts, rows in use, marks, count, intake and the numbers that the
 -- calls return (`Determined`, and equations), so a wrong one contradicts them. `Refuted` says it of each wrong answer that the document
--- names, of wrong counts and last times of edges (document 02, 2.1), and of wrong traces of a list (2.2), for the worked list of calls, that
--- list with one event more, or a file of two or three events: no answer that is wrong in this way, whatever it is otherwise, is one of which
--- the claim holds.
+-- names, of wrong counts and last times of edges (document 02, 2.1), of wrong traces of a list (2.2) and of wrong numbers of edges tried (2.3),
+-- for the worked list of calls, that list with one event more, or a file of two or three events: no answer that is wrong in this way, whatever
+-- it is otherwise, is one of which the claim holds.
 use Prim.Native.Nat.{ℕ, _≤_, _<_}
 use mathlib.Core.Path.{_≡_}
 use mathlib.Core.List.{List, [], _∷_, _++_, List·Memᴰ}
@@ -177,15 +177,24 @@ pub record Refuted : Type 0 where
   pub refused-for-another : NoAnswer 3 (λ a. a .refusal ≡ refusalNo EdgesFull → ⊥)
   -- more records than the file has
   pub more-than-the-file : NoAnswer 8 (λ a. a .taken ≡ 12)
+  -- document 02, 2.3: the hit not counted; edges counted from the oldest to the hit; all edges in spite of a hit; any number but 11. In P11 the
+  -- refused event counted too. The execves of `execves` counted
+  pub hit-not-counted : NoAnswer 8 (λ a. a .tried ≡ 8)
+  pub tried-from-the-oldest : NoAnswer 8 (λ a. a .tried ≡ 12)
+  pub all-tried : NoAnswer 8 (λ a. a .tried ≡ 14)
+  pub tried-free : NoAnswer 8 (λ a. a .tried ≡ 11 → ⊥)
+  pub refused-tried : NoAnswer 3 (λ a. a .tried ≡ 9)
+  pub execves-tried : (t : Tables) (file : List ℕ) (a : BatchAnswer) → a .tried ≡ 2 → Answered [] t file execves a → ⊥
   -- The same events accepted and none kept at 6, as when no edge is kept: 2 gains 3 by it
   pub gain-dropped : (hs : List Item) → accepted hs ≡ accepted (itemsOf workedPlain) → ((e : Event) → List·Memᴰ e (keptEvents hs) → e .time ≡ 6 → ⊥)
       → GainsAreKept hs → ⊥
   -- the writer refused though the output has the 104 bytes of the log
   pub log-always-refused : (c : Counts) (t : Tables) (out : List ℕ) (k : KeptLog) → 104 ≤ length out → (k .answer .refusal ≡ 0 → ⊥)
       → LogAgrees (workedCalls 8) c t out k → ⊥
-  -- the kept log without its events, or refused
+  -- the kept log without its events, or refused, or another number of its eight records taken in
   pub log-of-no-event : (b : Batched) → b .counts .edges ≡ 0 → TakenAgainClaim b → ⊥
   pub log-refused : (b : Batched) → (b .answer .refusal ≡ 0 → ⊥) → TakenAgainClaim b → ⊥
+  pub log-taken-free : (b : Batched) → (b .answer .taken ≡ 8 → ⊥) → TakenAgainClaim b → ⊥
   -- a count that is not 1, a last time that is not the edge's own
   pub log-counts-kept : (b : Batched) → (edgeAt (b .tables .edges) 0 .count ≡ 1 → ⊥) → TakenAgainClaim b → ⊥
   pub log-lasts-kept : (b : Batched) → (edgeAt (b .tables .edges) 0 .last ≡ edgeAt (b .tables .edges) 0 .time → ⊥) → TakenAgainClaim b → ⊥

@@ -36,7 +36,8 @@ pub record SameCalls (c : Counts) (t : Tables) (c′ : Counts) (t′ : Tables) :
 
 -- the batch takes in every record of the log, and the trail that it leaves is the same, but for counts and last times of edges
 pub record TakenAgain (c : Counts) (t : Tables) (b : Batched) : Type 0 where
-  pub answer : b .answer ≡ record { refusal = 0; taken = c .entities + c .edges }
+  pub refusal : b .answer .refusal ≡ 0
+  pub taken : b .answer .taken ≡ c .entities + c .edges
   pub same : SameTrail (trailOf c t) (trailOf (b .counts) (b .tables))
   -- document 02, 2.1: "a trail regrown .. has counts of 1"; each edge stands for its own event alone
   pub counts-one : (k : ℕ) → k < c .edges → edgeAt (b .tables .edges) k .count ≡ 1

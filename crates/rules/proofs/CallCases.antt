@@ -24,6 +24,7 @@ callCases = record {
   stand-times = refl;
   stand-for-newest = refl;
   last-times = refl;
+  tried-over = refl;
   calls-accepted = refl;
   calls-kept = refl;
   calls-counts = refl;

@@ -33,6 +33,7 @@ cases = (
     count-of-entities = refl;
     empty-file = refl;
     header-alone = refl;
+    log-again = refl;
     log-104 = refl;
     log-103 = refl;
     log-bytes = refl;

@@ -8,9 +8,9 @@ use Rattle.record.specs.Decode.{declarationChecks, eventChecks, decodeOf, decod
 use Rattle.record.specs.Encode.{encodeOf}
 use Rattle.rules.specs.Sound.{every, allBelow, isObject, isSubject, sourceFits, targetFits, mayFollow, soundCounts, soundEntity, soundPrevious, soundVersion, timeBefore, entityTest, versionTest, edgeTest, countSum, isSound}
 use Rattle.rules.specs.Decide.{goesTo, newestTo, leaves, repeatOf, hasOutgoing, decisionOf}
-use Rattle.rules.specs.Record.{declarationRefusals, earlyRefusals, roomRefusals, eventRefusals, refusalOf, changeOf}
-use Rattle.rules.specs.Batch.{readFrom, contentsOf, takeIn, batchChecks, batchOf}
-use Rattle.rules.specs.PlainList.{put, added, addedBy}
+use Rattle.rules.specs.Record.{declarationRefusals, earlyRefusals, roomRefusals, eventRefusals, refusalOf, changeOf, triedFor}
+use Rattle.rules.specs.Batch.{readFrom, contentsOf, takeIn, triedIn, batchChecks, endOf, triedOf, batchOf}
+use Rattle.rules.specs.PlainList.{put, triedOver, added, addedBy}
 use Rattle.rules.specs.StandsFor.{standsFor}
 use Rattle.rules.specs.Start.{startFrom, startOf, timesInto, intakeOf}
 use Rattle.rules.specs.Marks.{follow, pass, passes, seeded, closed, hasMarked, marksBelow, ones}
@@ -20,7 +20,8 @@ use Rattle.rules.specs.KeptLog.{encodedBelow, logBytes, logChecks, keptL
 use Rattle.rules.specs.Listing.{decimalIn, spaced, edgeLines, recordNo, refusedLine, listingOf}
 use Rattle.rules.specs.Worked.{batch, backward, forward, log}
 use Rattle.rules.specs.RecordCases.{grown, grownThenDeclared}
+use Rattle.rules.specs.TriedCases.{eventsFrom}
 
 unfoldable pub computed : Type 0
-unfolding firstOf entityAt versionAt edgeAt putEntity putVersion putEdge entityCapacity versionCapacity edgeCapacity kindOf headerChecks declarationChecks eventChecks decodeOf decodeFrom encodeOf every allBelow isObject isSubject sourceFits targetFits mayFollow soundCounts soundEntity soundPrevious soundVersion timeBefore entityTest versionTest edgeTest countSum isSound goesTo newestTo leaves repeatOf hasOutgoing decisionOf declarationRefusals earlyRefusals roomRefusals eventRefusals refusalOf changeOf readFrom contentsOf takeIn batchChecks batchOf startFrom startOf timesInto intakeOf follow pass passes seeded closed hasMarked marksBelow ones isFollowed edgesBack stepsBack backwardArcs backwardWork backwardEntities traceChecks backwardOf edgesOn stepsOn forwardArcs forwardWork forwardEntities forwardIntake forwardOf encodedBelow logBytes logChecks keptLogOf decimalIn spaced edgeLines recordNo refusedLine listingOf put added addedBy standsFor batch backward forward log grown grownThenDeclared
+unfolding firstOf entityAt versionAt edgeAt putEntity putVersion putEdge entityCapacity versionCapacity edgeCapacity kindOf headerChecks declarationChecks eventChecks decodeOf decodeFrom encodeOf every allBelow isObject isSubject sourceFits targetFits mayFollow soundCounts soundEntity soundPrevious soundVersion timeBefore entityTest versionTest edgeTest countSum isSound goesTo newestTo leaves repeatOf hasOutgoing decisionOf declarationRefusals earlyRefusals roomRefusals eventRefusals refusalOf changeOf triedFor readFrom contentsOf takeIn triedIn batchChecks endOf triedOf batchOf startFrom startOf timesInto intakeOf follow pass passes seeded closed hasMarked marksBelow ones isFollowed edgesBack stepsBack backwardArcs backwardWork backwardEntities traceChecks backwardOf edgesOn stepsOn forwardArcs forwardWork forwardEntities forwardIntake forwardOf encodedBelow logBytes logChecks keptLogOf decimalIn spaced edgeLines recordNo refusedLine listingOf put triedOver added addedBy standsFor batch backward forward log grown grownThenDeclared eventsFrom
 computed = Unit {0}

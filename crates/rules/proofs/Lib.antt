@@ -5,6 +5,7 @@ pub mod FileCases
 pub mod RefusalCases
 pub mod CapacityCases
 pub mod RecordCases
+pub mod TriedCases
 pub mod TraceCases
 pub mod MemberCases
 pub mod LogCases
@@ -13,3 +14,5 @@ pub mod CallCases
 pub mod Start
 pub mod Intake
 pub mod Members
+pub mod Search
+pub mod Tried

@@ -37,6 +37,7 @@ recordCases = record {
   unused-repeats = refl;
   unused-leaves = refl;
   declared-after = refl;
+  late-answer = refl;
   late-counts = refl;
   late-entities = refl;
   late-version = refl;

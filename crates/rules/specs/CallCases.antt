@@ -10,7 +10,7 @@ use Rattle.record.specs.declared.Record.{Record}
 use Rattle.record.specs.declared.Record.the-variants as records
 use Rattle.rules.specs.Trail.{Tables, tables, capacityOf, counts, none}
 use Rattle.rules.specs.History.{accepted, keptEvents, since, intakeTime}
-use Rattle.rules.specs.PlainList.{worked, itemsOf, addedBy}
+use Rattle.rules.specs.PlainList.{worked, itemsOf, triedOver, addedBy}
 use Rattle.rules.specs.StandsFor.{standsFor, lastTime}
 use Rattle.rules.specs.Calls.{Call, batch, backward, forward, heldAfter, plainAfter}
 use Rattle.rules.specs.Worked.{header, file, room, batch as workedBatch}
@@ -72,6 +72,8 @@ pub record CallCases : Type 0 where
   pub stand-times : standTimes (plain 8) (0 ∷ 1 ∷ 2 ∷ 3 ∷ 4 ∷ []) ≡ (3 ∷ 1 ∷ []) ∷ (4 ∷ 2 ∷ []) ∷ (7 ∷ 5 ∷ []) ∷ (6 ∷ []) ∷ [] ∷ []
   pub stand-for-newest : standTimes execves (0 ∷ 1 ∷ 2 ∷ []) ≡ (1 ∷ []) ∷ (3 ∷ 2 ∷ []) ∷ [] ∷ []
   pub last-times : map (λ k. lastTime (standsFor (plain 8) k)) (0 ∷ 1 ∷ 2 ∷ 3 ∷ 4 ∷ []) ≡ 3 ∷ 4 ∷ 7 ∷ 6 ∷ 0 ∷ []
+  -- document 02, 2.3: the edges tried for the records of the plain list
+  pub tried-over : map triedOver (plain 8 ∷ plain 3 ∷ execves ∷ plainAfter calls ∷ []) ≡ 11 ∷ 6 ∷ 1 ∷ 15 ∷ []
   -- "A batch adds .. the records of its file that this document's rules and refusals take in ..; a trace adds nothing."
   pub calls-accepted : timesOf (accepted (itemsOf (plainAfter calls))) ≡ 8 ∷ 7 ∷ 6 ∷ 5 ∷ 4 ∷ 3 ∷ 2 ∷ 1 ∷ []
   pub calls-kept : timesOf (keptEvents (itemsOf (plainAfter calls))) ≡ 6 ∷ 5 ∷ 2 ∷ 1 ∷ []

@@ -108,10 +108,10 @@ pub record FileCases : Type 0 where
   pub encoded-kinds : map encodedKind (Read ∷ Write ∷ Load ∷ Fork ∷ Execve ∷ []) ≡ 1 ∷ 2 ∷ 3 ∷ 4 ∷ 5 ∷ []
   -- the greatest time, and none above it
   pub greatest-time : takenIn (declare 0 0 ++ (declare 1 1 ++ readAt 255 255 255 255)) .counts ≡ counts 2 2 1 1 4294967295
-  pub after-greatest : takenIn (declare 0 0 ++ (declare 1 1 ++ (readAt 255 255 255 255 ++ readAt 255 255 255 255))) .answer ≡ answer 9 3
+  pub after-greatest : takenIn (declare 0 0 ++ (declare 1 1 ++ (readAt 255 255 255 255 ++ readAt 255 255 255 255))) .answer ≡ answer 9 3 0
   -- "One to 11 bytes remain."
-  pub cut-short : map cutTo (0 ∷ 1 ∷ 2 ∷ 3 ∷ 4 ∷ 5 ∷ 6 ∷ 7 ∷ 8 ∷ 9 ∷ 10 ∷ 11 ∷ 12 ∷ []) ≡ answer 0 1 ∷ (replicate 11 (answer 3 1) ++ (answer 0 2 ∷ []))
+  pub cut-short : map cutTo (0 ∷ 1 ∷ 2 ∷ 3 ∷ 4 ∷ 5 ∷ 6 ∷ 7 ∷ 8 ∷ 9 ∷ 10 ∷ 11 ∷ 12 ∷ []) ≡ answer 0 1 0 ∷ (replicate 11 (answer 3 1 0) ++ (answer 0 2 0 ∷ []))
   -- "Records are taken in order until the first one refused." One that cannot be read, one that is not taken in
-  pub first-refused-4 : takenIn (declare 0 0 ++ (declare 1 2 ++ declare 1 1)) .answer ≡ answer 4 1
-  pub first-refused-6 : takenIn (declare 0 0 ++ (declare 2 1 ++ declare 1 2)) .answer ≡ answer 6 1
-  pub first-refused-3 : takenIn (declare 0 0 ++ (declare 2 1 ++ (0 ∷ []))) .answer ≡ answer 6 1
+  pub first-refused-4 : takenIn (declare 0 0 ++ (declare 1 2 ++ declare 1 1)) .answer ≡ answer 4 1 0
+  pub first-refused-6 : takenIn (declare 0 0 ++ (declare 2 1 ++ declare 1 2)) .answer ≡ answer 6 1 0
+  pub first-refused-3 : takenIn (declare 0 0 ++ (declare 2 1 ++ (0 ∷ []))) .answer ≡ answer 6 1 0

@@ -6,6 +6,8 @@ pub mod Sound
 pub mod Decide
 pub mod Record
 pub mod Batch
+-- Document 02, 2.3: the search for a repeat
+pub mod Search
 -- "Traces": what is claimed of the full list, and the list of calls
 pub mod Paths
 pub mod History
@@ -31,6 +33,7 @@ pub mod FileCases
 pub mod RefusalCases
 pub mod CapacityCases
 pub mod RecordCases
+pub mod TriedCases
 pub mod TraceCases
 pub mod MemberCases
 pub mod LogCases

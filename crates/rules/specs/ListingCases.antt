@@ -29,7 +29,7 @@ pub record ListingCases : Type 0 where
   pub wrong-version : listingOf (0x53 ∷ 0x4C ∷ 0x54 ∷ 2 ∷ 0 ∷ 0 ∷ 0 ∷ 0 ∷ []) ≡ text "trail 0 0 0 0 0\nrefused 2 0\n"
   pub first-cut : listingOf (header ++ (0 ∷ [])) ≡ text "trail 0 0 0 0 0\nrefused 3 1\n"
   pub last-cut : listingOf (take 103 (file 1)) ≡ text "trail 4 4 2 3 3\nedge 0 1 1 1\nedge 1 2 2 2\nrefused 3 8\n"
-  pub record-numbers : map recordNo (answer 1 0 ∷ answer 2 0 ∷ answer 16 0 ∷ answer 3 0 ∷ answer 4 1 ∷ answer 15 7 ∷ []) ≡ 0 ∷ 0 ∷ 0 ∷ 1 ∷ 2 ∷ 8 ∷ []
+  pub record-numbers : map recordNo (answer 1 0 0 ∷ answer 2 0 0 ∷ answer 16 0 0 ∷ answer 3 0 0 ∷ answer 4 1 0 ∷ answer 15 7 0 ∷ []) ≡ 0 ∷ 0 ∷ 0 ∷ 1 ∷ 2 ∷ 8 ∷ []
   -- numbers in decimal
   pub digits : map decimal (0 ∷ 9 ∷ 10 ∷ 99 ∷ 100 ∷ 1000000 ∷ 4294967295 ∷ []) ≡ text "0" ∷ text "9" ∷ text "10" ∷ text "99" ∷ text "100" ∷ text "1000000" ∷ text "4294967295" ∷ []
   pub greatest-time : listingOf (header ++ (declare 0 0 ++ (declare 1 1 ++ readAt 255 255 255 255))) ≡ text "trail 2 2 1 1 4294967295\nedge 0 1 1 4294967295\n"

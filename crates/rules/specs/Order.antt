@@ -45,14 +45,14 @@ noVersion = tables (0 ∷ 0 ∷ []) [] []
 
 -- a file of one record, and of any bytes after the header, taken into a trail
 abbrev pub Refuses : Counts → Tables → List ℕ → Refusal → ℕ → Type 0
-Refuses c t bytes r n = batchOf c t (header ++ bytes) .answer ≡ answer (refusalNo r) n
+Refuses c t bytes r n = batchOf c t (header ++ bytes) .answer ≡ answer (refusalNo r) n 0
 
 pub record OrderOfRefusals : Type 0 where
   -- "A batch checks 16, 1, 2, then per record 3, 4"
-  pub r16-1 : batchOf (used 1) unsound [] .answer ≡ answer (refusalNo Unsound) 0
-  pub r1-2 : batchOf freshCounts noRows (0x53 ∷ 0x4C ∷ 0x55 ∷ 2 ∷ 0 ∷ 0 ∷ 0 ∷ 0 ∷ []) .answer ≡ answer (refusalNo NotEventFile) 0
-  pub r1-2-zeros : batchOf freshCounts noRows (0x53 ∷ 0x4C ∷ 0x54 ∷ 2 ∷ 0 ∷ 0 ∷ 0 ∷ 1 ∷ []) .answer ≡ answer (refusalNo NotEventFile) 0
-  pub r2-3 : batchOf freshCounts noRows (0x53 ∷ 0x4C ∷ 0x54 ∷ 1 ∷ 1 ∷ 0 ∷ 0 ∷ 0 ∷ 7 ∷ []) .answer ≡ answer (refusalNo WrongVersion) 0
+  pub r16-1 : batchOf (used 1) unsound [] .answer ≡ answer (refusalNo Unsound) 0 0
+  pub r1-2 : batchOf freshCounts noRows (0x53 ∷ 0x4C ∷ 0x55 ∷ 2 ∷ 0 ∷ 0 ∷ 0 ∷ 0 ∷ []) .answer ≡ answer (refusalNo NotEventFile) 0 0
+  pub r1-2-zeros : batchOf freshCounts noRows (0x53 ∷ 0x4C ∷ 0x54 ∷ 2 ∷ 0 ∷ 0 ∷ 0 ∷ 1 ∷ []) .answer ≡ answer (refusalNo NotEventFile) 0 0
+  pub r2-3 : batchOf freshCounts noRows (0x53 ∷ 0x4C ∷ 0x54 ∷ 1 ∷ 1 ∷ 0 ∷ 0 ∷ 0 ∷ 7 ∷ []) .answer ≡ answer (refusalNo WrongVersion) 0 0
   pub r3-4 : Refuses freshCounts noRows (6 ∷ []) CutShort 0
   pub r3-after : Refuses freshCounts full (declare 0 1 ++ replicate 11 9) CutShort 1
   pub r4-6 : Refuses freshCounts noRows (declare 7 2) BadField 0

@@ -12,9 +12,9 @@ use Rattle.record.specs.declared.Kind.the-variants.{Read}
 use Rattle.record.specs.declared.Event.{Event}
 use Rattle.record.specs.declared.Record.the-variants as records
 use Rattle.rules.specs.declared.Found.the-variants.{At}
-use Rattle.rules.specs.Trail.{Trail, tables, trailOf, counts, freshCounts, none}
+use Rattle.rules.specs.Trail.{Tables, Trail, tables, trailOf, counts, freshCounts, none}
 use Rattle.rules.specs.Decide.{edgeNo, repeatOf}
-use Rattle.rules.specs.Batch.{Batched, batched, takeIn, batchOf}
+use Rattle.rules.specs.Batch.{Batched, ended, takeIn, batchOf}
 use Rattle.rules.specs.Worked.{header, declarations, file, room, answer}
 use Rattle.rules.specs.Order.{declare, event, used, full}
 use Rattle.rules.specs.SoundCases.{entityRows, versionRows, edgeRows, versionsUsed}
@@ -22,12 +22,18 @@ use Rattle.rules.specs.FileCases.{readAt, takenIn}
 use Rattle.rules.specs.RefusalCases.{longer}
 
 -- two edges go from version 0 to version 1; the older has the later last time
+abbrev pub twoEdgeRows : List ℕ
+twoEdgeRows = 0 ∷ 1 ∷ 5 ∷ 1 ∷ 1 ∷ 5 ∷ 0 ∷ 1 ∷ 5 ∷ 2 ∷ 1 ∷ 2 ∷ []
+
 abbrev pub twoEdges : Trail
-twoEdges = trailOf (counts 2 2 2 2 5) (tables (full .entities) (full .versions) (0 ∷ 1 ∷ 5 ∷ 1 ∷ 1 ∷ 5 ∷ 0 ∷ 1 ∷ 5 ∷ 2 ∷ 1 ∷ 2 ∷ []))
+twoEdges = trailOf (counts 2 2 2 2 5) (tables (full .entities) (full .versions) twoEdgeRows)
 
 -- sound, but grown by no file: an edge to subject 1's older version is newer than one to its latest
+abbrev pub olderNewerRows : Tables
+olderNewerRows = tables entityRows versionRows (putEdge edgeRows 4 (edgeRow 0 1 5 9 1 9))
+
 abbrev pub olderNewer : Trail
-olderNewer = trailOf (versionsUsed 5) (tables entityRows versionRows (putEdge edgeRows 4 (edgeRow 0 1 5 9 1 9)))
+olderNewer = trailOf (versionsUsed 5) olderNewerRows
 
 abbrev pub read : ℕ → ℕ → ℕ → Event
 read u v t = record { kind = Read; source = entityNo u; target = entityNo v; time = t }
@@ -87,7 +93,7 @@ pub record RecordCases : Type 0 where
   pub into-older-load : workedThen (event 3 0 1 8) ≡ counts 4 5 4 8 8
   pub into-older-execve : workedThen (event 5 0 1 8) ≡ counts 4 6 5 8 8
   -- 2. and 3. "If v's latest version has no outgoing edge": an older one's edges do not count
-  pub grown-answer : grown .answer ≡ answer 0 10
+  pub grown-answer : grown .answer ≡ answer 0 10 10
   pub grown-counts : grown .counts ≡ counts 4 7 6 6 6
   pub grown-entities : grown .tables .entities ≡ 0 ∷ 0 ∷ 1 ∷ 6 ∷ 0 ∷ 5 ∷ 0 ∷ 3 ∷ replicate 8 7
   pub grown-versions : grown .tables .versions ≡
@@ -135,11 +141,12 @@ pub record RecordCases : Type 0 where
   pub unused-leaves : afterUnused (event 2 1 0 6) ≡ counts 2 2 1 1 6
   -- an entity declared after events: its first version's number is not its own
   pub declared-after : batchOf (versionsUsed 5) (longer 2 4 6) (header ++ declare 4 1) .counts ≡ counts 5 6 5 7 9
+  pub late-answer : grownThenDeclared .answer ≡ answer 0 10 10
   pub late-counts : grownThenDeclared .counts ≡ counts 5 7 5 5 5
   pub late-entities : map (entityAt (grownThenDeclared .tables .entities)) (0 ∷ 1 ∷ 2 ∷ 3 ∷ 4 ∷ []) ≡ entityRow 0 0 ∷ entityRow 1 4 ∷ entityRow 0 5 ∷ entityRow 0 3 ∷ entityRow 1 6 ∷ []
   pub late-version : versionAt (grownThenDeclared .tables .versions) 6 ≡ versionRow 4 0 0 none
   -- a refused record leaves nothing of itself: reads that are not later, one that would be kept and one that would repeat
   pub refused-record : takeIn (versionsUsed 5) (longer 2 4 6) 0 (records.Event (read 3 1 9) ∷ []) Passed
-      ≡ batched (Refused NotLater) 0 (versionsUsed 5) (longer 2 4 6)
+      ≡ ended (Refused NotLater) 0 (versionsUsed 5) (longer 2 4 6)
   pub refused-repeat : takeIn (versionsUsed 5) (longer 2 4 6) 0 (records.Event (read 0 1 9) ∷ []) Passed
-      ≡ batched (Refused NotLater) 0 (versionsUsed 5) (longer 2 4 6)
+      ≡ ended (Refused NotLater) 0 (versionsUsed 5) (longer 2 4 6)

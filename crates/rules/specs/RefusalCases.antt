@@ -80,7 +80,7 @@ pub record RefusalCases : Type 0 where
   pub millionth-repeated : repeatedAfter 999999 .counts ≡ counts 4 5 5 1000000 10
   -- an edge that stands for them all
   pub millionth-counted : batchOf (used 999999) (fullOf 999999) (header ++ event 1 0 1 6)
-      ≡ record { answer = answer 0 1; counts = counts 2 2 1 1000000 6; tables = tables (full .entities) (full .versions) (0 ∷ 1 ∷ 1 ∷ 5 ∷ 1000000 ∷ 6 ∷ []) }
+      ≡ record { answer = answer 0 1 1; counts = counts 2 2 1 1000000 6; tables = tables (full .entities) (full .versions) (0 ∷ 1 ∷ 1 ∷ 5 ∷ 1000000 ∷ 6 ∷ []) }
   -- "10. No entity row left.": a row has 2 numbers
   pub no-entity-row : map (λ e. declaredIn e 4) (0 ∷ 1 ∷ 2 ∷ 3 ∷ []) ≡ 10 ∷ 10 ∷ 0 ∷ 0 ∷ []
   -- "11. No version row left where one is to be made.": a row has 4 numbers
@@ -97,8 +97,8 @@ pub record RefusalCases : Type 0 where
   -- a load that repeats a read, at a full edge table
   pub full-load : batchOf (used 1) full (header ++ event 3 0 1 6) .counts ≡ counts 2 2 1 2 6
   -- a refused batch leaves the counts and the tables
-  pub unsound-left : batchOf (used 1) unsound (file 1) ≡ record { answer = answer 16 0; counts = used 1; tables = unsound }
-  pub header-left : batchOf (used 1) full [] ≡ record { answer = answer 1 0; counts = used 1; tables = full }
+  pub unsound-left : batchOf (used 1) unsound (file 1) ≡ record { answer = answer 16 0 0; counts = used 1; tables = unsound }
+  pub header-left : batchOf (used 1) full [] ≡ record { answer = answer 1 0 0; counts = used 1; tables = full }
   pub repeat-left : batchOf (used mostAccepted) (fullOf mostAccepted) (header ++ event 1 0 1 6)
-      ≡ record { answer = answer 13 0; counts = used mostAccepted; tables = fullOf mostAccepted }
-  pub record-left : batchOf (used 1) full (header ++ event 2 1 0 6) ≡ record { answer = answer 12 0; counts = used 1; tables = full }
+      ≡ record { answer = answer 13 0 0; counts = used mostAccepted; tables = fullOf mostAccepted }
+  pub record-left : batchOf (used 1) full (header ++ event 2 1 0 6) ≡ record { answer = answer 12 0 0; counts = used 1; tables = full }

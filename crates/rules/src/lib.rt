@@ -20,6 +20,7 @@ pub enum Decision {
 pub struct BatchAnswer {
     pub refusal: u32,
     pub taken: u32,
+    pub tried: u64,
 }
 
 #[repr(C)]

@@ -261,6 +261,7 @@ fn main() {
     let a = b.answer;
     say(b"batch: refusal ", wide(a.refusal));
     say(b" taken ", wide(a.taken));
+    say(b" tried ", a.tried);
     io::write_all(STDOUT_FILENO, b"\n");
     traces(c, &entities, &versions, &edges);
     log(c, &entities, &versions, &edges);
