@@ -96,11 +96,12 @@ enum slt_refusal {
 /* `refusal` is one of slt_refusal in each answer. */
 
 /*
- * How many records the batch took in, and how many edges a plain search for repeats tries for them: for each read, write and load
- * that was taken in, the edges from the newest to the one that makes it a repeat, that one counted, or all edges in use if none
- * does; for other records none. The library finds that edge by an index, so `tried` is no measure of its own work: it depends on
- * the trail and the file alone, and is the same on every machine. Divided by the reads, writes and loads taken in, it says how far
- * back repeats lie: near 1 where programs read and write in runs, near the number of edges where events seldom repeat.
+ * How many records the batch took in, and how many edges a search for repeats that begins at the newest edge and stops at the
+ * first hit tries for them: for each read, write and load taken in, the edges from the newest to the one that makes it a repeat,
+ * that one counted, or all edges in use if none does; for other records none. It depends on what the call is lent and on nothing
+ * else. The library finds the edge by an index, so `tried` does not measure its work: it says what a search without an index
+ * would cost. A repeat adds how far back its edge lies, an event that is kept adds all edges in use. So in a batch that keeps no
+ * edge, `tried` divided by its events is the mean distance, 1 if each event repeats the newest edge.
  */
 typedef struct slt_batch_answer {
     uint32_t refusal;
@@ -132,9 +133,9 @@ typedef struct slt_log_answer {
  * its source's latest version gave its target keeps no edge: it adds one to the count of the newest such edge and sets its last time.
  *
  * Refused with 16, 1, 2, then at each record with 3, 4; a declaration with 6, 10, 11; an event with 5, 7, 8, 9, 13, 12, 11.
- * Refused with 16, 1 or 2 it takes nothing in, tries no edge and writes nothing. Refused at a record, it leaves the counts and the tables as
- * the records before that one made them, and `taken` says how many they are; `tried` is of these records too. Not refused, it has
- * taken all of them in.
+ * Refused with 16, 1 or 2 it takes nothing in, tries no edge and writes nothing. Refused at a record, it leaves the counts and
+ * the tables as the records before that one made them; `taken` says how many they are, and `tried` is for them. Not refused, it
+ * has taken all of them in.
  */
 slt_batch_answer slt_batch(
     slt_counts *counts,

@@ -20,7 +20,7 @@ use Rattle.rules.specs.declared.Decision.the-variants.{Repeat, Widen, Renew}
 use Rattle.rules.specs.Trail.{Tables, Capacity, capacityOf, Trail, trailOf}
 use Rattle.rules.specs.Decide.{decisionOf}
 use Rattle.rules.specs.Record.{happened, changeOf, written, refusalOf, triedFor}
-use Rattle.rules.specs.Batch.{Ended, ended, ifRefused, contentsOf, takeIn, triedIn, batchChecks, endOf, triedOf, batchOf}
+use Rattle.rules.specs.Batch.{Results, results, ifRefused, contentsOf, takeIn, triedIn, batchChecks, resultsOf, triedOf, batchOf}
 use Rattle.rules.specs.History.{Item, itemOf, accepted}
 use Rattle.rules.specs.PlainList.{changed, worked, itemsOf, triedOver, added, addedBy, refusedAt, refusedBy}
 use Rattle.rules.specs.Calls.{Call, batch, heldAfter, Lent, AllLent, plainAfter}
@@ -87,17 +87,17 @@ grown-next k r more rs rs′ g = record {
 }
 
 -- b took in n records and some of the records more, by which rs became rs′, and was refused for x; w edges were tried for those
-pub record Taking (n : ℕ) (more rs rs′ : List Record) (x : Checked) (b : Ended) (w : ℕ) : Type 0 where
+pub record Taking (n : ℕ) (more rs rs′ : List Record) (x : Checked) (b : Results) (w : ℕ) : Type 0 where
   pub number : ℕ
   pub taken : b .taken ≡ n + number
   pub grown : GrownBy number more rs rs′
   pub checked : b .checked ≡ x
   pub tried : triedOver rs′ ≡ triedOver rs + w
 
-taking-none : (n : ℕ) (x : Checked) (c : Counts) (t : Tables) (more rs : List Record) → Taking n more rs rs x (ended x n c t) 0
+taking-none : (n : ℕ) (x : Checked) (c : Counts) (t : Tables) (more rs : List Record) → Taking n more rs rs x (results x n c t) 0
 taking-none n x c t more rs = record { number = 0; taken = omega arith; grown = grown-none more rs; checked = refl; tried = omega arith }
 
-taking-next : {n : ℕ} {more rs′ : List Record} {x : Checked} {b : Ended} {w : ℕ} (r : Record) (rs : List Record) (v : ℕ) → v ≡ triedFor (worked rs) r
+taking-next : {n : ℕ} {more rs′ : List Record} {x : Checked} {b : Results} {w : ℕ} (r : Record) (rs : List Record) (v : ℕ) → v ≡ triedFor (worked rs) r
     → Taking (n + 1) more (r ∷ rs) rs′ x b w → Taking n (r ∷ more) rs rs′ x b (v + w)
 unfolding triedOver
 taking-next {n} {more} r rs v q z = record {
@@ -117,7 +117,7 @@ module _ (cap : Capacity) (w : Within cap) where
       rw (checked-same cap w c t rs y r)
       (go (refusalOf cap (worked rs) r) refl (λ h. takeIn-taking _ _ (r ∷ rs) (ready-next cap w c t rs y r (a .0) h) (n + 1) more ending (a .1)))
     where
-      rest : Ended
+      rest : Results
       rest = takeIn (changeOf (trailOf c t) r .counts) (written t (changeOf (trailOf c t) r .writes)) (n + 1) more ending
 
       restTried : ℕ
@@ -125,26 +125,26 @@ module _ (cap : Capacity) (w : Within cap) where
 
       go : (x : Checked) → refusalOf cap (worked rs) r ≡ x
           → (refusalOf cap (worked rs) r ≡ Passed → Taking (n + 1) more (r ∷ rs) (added cap (r ∷ rs) more) (refusedAt cap (r ∷ rs) more ending) rest restTried)
-          → Taking n (r ∷ more) rs (ifRefused x rs (added cap (r ∷ rs) more)) (ifRefused x x (refusedAt cap (r ∷ rs) more ending)) (ifRefused x (ended x n c t) rest)
+          → Taking n (r ∷ more) rs (ifRefused x rs (added cap (r ∷ rs) more)) (ifRefused x x (refusedAt cap (r ∷ rs) more ending)) (ifRefused x (results x n c t) rest)
           (ifRefused x 0 (triedFor (trailOf c t) r + restTried))
       go Passed q ih = taking-next r rs (triedFor (trailOf c t) r) (tried-as-worked cap w c t rs y r q) (ih q)
       go (Refused x) q ih = taking-none n (Refused x) c t (r ∷ more) rs
 
   batch-taking : (c : Counts) (t : Tables) (rs : List Record) → Ready cap c t rs → (file : List ℕ)
-      → Taking 0 (contentsOf file .records) rs (addedBy cap rs file) (refusedBy cap rs file) (endOf c t file) (triedOf c t file)
-  unfolding endOf triedOf batchChecks addedBy refusedBy firstOf
+      → Taking 0 (contentsOf file .records) rs (addedBy cap rs file) (refusedBy cap rs file) (resultsOf c t file) (triedOf c t file)
+  unfolding resultsOf triedOf batchChecks addedBy refusedBy firstOf
   batch-taking c t rs y file =
       rw (y .sound)
       (go (firstOf (headerChecks file)) (takeIn-taking c t rs y 0 (contentsOf file .records) (contentsOf file .ending) (contents-fit file)))
     where
-      rest : Ended
+      rest : Results
       rest = takeIn c t 0 (contentsOf file .records) (contentsOf file .ending)
 
       last : Checked
       last = refusedAt cap rs (contentsOf file .records) (contentsOf file .ending)
 
       go : (x : Checked) → Taking 0 (contentsOf file .records) rs (added cap rs (contentsOf file .records)) last rest (triedIn c t (contentsOf file .records))
-          → Taking 0 (contentsOf file .records) rs (ifRefused x rs (added cap rs (contentsOf file .records))) (ifRefused x x last) (ifRefused x (ended x 0 c t) rest)
+          → Taking 0 (contentsOf file .records) rs (ifRefused x rs (added cap rs (contentsOf file .records))) (ifRefused x x last) (ifRefused x (results x 0 c t) rest)
           (ifRefused x 0 (triedIn c t (contentsOf file .records)))
       go Passed z = z
       go (Refused x) z = taking-none 0 (Refused x) c t (contentsOf file .records) rs
@@ -154,7 +154,7 @@ held-answer : (cs : List Call) → AllLent cs → (t : Tables) → Lent (heldAft
 unfolding batchOf
 held-answer cs a t l file =
     let z = batch-taking (capacityOf t) (capacity-within t) (heldAfter cs .counts) t (plainAfter cs) (lent-ready _ _ (matches cs a) t l) file in
-    let n : z .number ≡ endOf (heldAfter cs .counts) t file .taken = omega (arith, z .taken) in
+    let n : z .number ≡ resultsOf (heldAfter cs .counts) t file .taken = omega (arith, z .taken) in
     let g = subst (λ (k : ℕ). GrownBy k (contentsOf file .records) (plainAfter cs) (plainAfter (batch t file ∷ cs))) n (z .grown) in
     record { refusal = ap numberOf (z .checked); among = g .among; grown = g .grown; tried = z .tried }
 

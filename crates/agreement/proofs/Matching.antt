@@ -15,7 +15,7 @@ use Rattle.rules.specs.Trail.{Tables, Capacity, capacityOf, trailOf}
 use Rattle.rules.specs.Sound.{isSound}
 use Rattle.rules.specs.Record.{refusalOf, changeOf, triedFor, written}
 use Rattle.rules.specs.PlainList.{worked, itemsOf, added, addedBy}
-use Rattle.rules.specs.Batch.{Ended, ended, ifRefused, contentsOf, takeIn, batchChecks, endOf, batchOf}
+use Rattle.rules.specs.Batch.{Results, results, ifRefused, contentsOf, takeIn, batchChecks, resultsOf, batchOf}
 use Rattle.rules.specs.Calls.{Call, batch, backward, forward, Held, heldAfter, EnoughRows, Lent, AllLent, plainAfter}
 use Rattle.soundness.specs.Facts.{CountFacts, RowFacts}
 use Rattle.soundness.specs.Taken.{SortFits, Each}
@@ -119,11 +119,11 @@ module _ (cap : Capacity) (w : Within cap) where
       rw (checked-same c t rs y r)
       (go (refusalOf cap (worked rs) r) refl (λ h. takeIn-ready _ _ (r ∷ rs) (ready-next c t rs y r (a .0) h) (n + 1) more ending (a .1)))
     where
-      rest : Ended
+      rest : Results
       rest = takeIn (changeOf (trailOf c t) r .counts) (written t (changeOf (trailOf c t) r .writes)) (n + 1) more ending
 
-      stop : Checked → Ended
-      stop x = ended x n c t
+      stop : Checked → Results
+      stop x = results x n c t
 
       go : (x : Checked) → refusalOf cap (worked rs) r ≡ x → (refusalOf cap (worked rs) r ≡ Passed → Ready cap (rest .counts) (rest .tables) (added cap (r ∷ rs) more))
           → Ready cap (ifRefused x (stop x) rest .counts) (ifRefused x (stop x) rest .tables) (ifRefused x rs (added cap (r ∷ rs) more))
@@ -132,16 +132,16 @@ module _ (cap : Capacity) (w : Within cap) where
 
   batch-ready : (c : Counts) (t : Tables) (rs : List Record) → Ready cap c t rs → (file : List ℕ)
       → Ready cap (batchOf c t file .counts) (batchOf c t file .tables) (addedBy cap rs file)
-  unfolding batchOf endOf batchChecks addedBy firstOf
+  unfolding batchOf resultsOf batchChecks addedBy firstOf
   batch-ready c t rs y file =
       rw (y .sound)
       (go (firstOf (headerChecks file)) (takeIn-ready c t rs y 0 (contentsOf file .records) (contentsOf file .ending) (contents-fit file)))
     where
-      rest : Ended
+      rest : Results
       rest = takeIn c t 0 (contentsOf file .records) (contentsOf file .ending)
 
       go : (x : Checked) → Ready cap (rest .counts) (rest .tables) (added cap rs (contentsOf file .records))
-          → Ready cap (ifRefused x (ended x 0 c t) rest .counts) (ifRefused x (ended x 0 c t) rest .tables) (ifRefused x rs (added cap rs (contentsOf file .records)))
+          → Ready cap (ifRefused x (results x 0 c t) rest .counts) (ifRefused x (results x 0 c t) rest .tables) (ifRefused x rs (added cap rs (contentsOf file .records)))
       go Passed z = z
       go (Refused x) z = y
 

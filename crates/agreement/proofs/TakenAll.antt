@@ -1,19 +1,18 @@
 -- A batch over a fresh trail takes in every record of a file that the rules take in one after another.
 use Prim.Native.Nat.{ℕ, _+_}
 use native.Mathlib.Omega.{arith}
-use mathlib.Core.Path.{_≡_, refl, _∙_, ap, subst}
+use mathlib.Core.Path.{_≡_, refl, _∙_, subst}
 use mathlib.Core.List.{List, [], _∷_, reverse, reverseAux, reverse-reverse}
 use lib.ListN.{length}
-use Rattle.refusals.specs.declared.Checked.{Checked}
 use Rattle.refusals.specs.declared.Checked.the-variants.{Passed}
-use Rattle.refusals.specs.Refusals.{firstOf, numberOf}
+use Rattle.refusals.specs.Refusals.{firstOf}
 use Rattle.rows.specs.declared.Counts.{Counts}
 use Rattle.record.specs.declared.Record.{Record}
 use Rattle.record.specs.Header.{headerChecks}
 use Rattle.rules.specs.Trail.{Tables, Capacity, capacityOf, trailOf, freshCounts}
 use Rattle.rules.specs.Record.{refusalOf}
 use Rattle.rules.specs.PlainList.{worked}
-use Rattle.rules.specs.Batch.{Ended, contentsOf, takeIn, batchChecks, endOf, batchOf}
+use Rattle.rules.specs.Batch.{Results, contentsOf, takeIn, batchChecks, resultsOf, batchOf}
 use Rattle.soundness.specs.Taken.{SortFits}
 use Rattle.soundness.proofs.Step.{fresh-sound}
 use Rattle.kept_log.specs.LogRecords.{wholly}
@@ -30,7 +29,7 @@ takenBy-passing : (cap : Capacity) (rs more : List Record) → TakenBy cap rs �
 takenBy-passing cap [] more a p = p
 takenBy-passing cap (r ∷ rs) more a p = takenBy-passing cap rs (r ∷ more) (a .1) (a .0, p)
 
-record AllTaken (cap : Capacity) (n : ℕ) (rs : List Record) (b : Ended) : Type 0 where
+record AllTaken (cap : Capacity) (n : ℕ) (rs : List Record) (b : Results) : Type 0 where
   ready : Ready cap (b .counts) (b .tables) rs
   checked : b .checked ≡ Passed
   taken : b .taken ≡ n
@@ -64,8 +63,8 @@ fresh-ready t = record {
 
 module _ (t : Tables) (file : List ℕ) (h : firstOf (headerChecks file) ≡ Passed) (rs : List Record) (a : TakenBy (capacityOf t) rs)
     (q : contentsOf file ≡ wholly (reverse rs)) where
-  batch-passed : endOf freshCounts t file ≡ takeIn freshCounts t 0 (reverse rs) Passed
-  unfolding endOf batchChecks firstOf
+  batch-passed : resultsOf freshCounts t file ≡ takeIn freshCounts t 0 (reverse rs) Passed
+  unfolding resultsOf batchChecks firstOf
   batch-passed = rw (fresh-sound (capacityOf t) (trailOf freshCounts t) refl, h, q)
 
   taken-all : AllTaken (capacityOf t) (0 + length (reverse rs)) (reverse (reverse rs)) (takeIn freshCounts t 0 (reverse rs) Passed)

@@ -48,6 +48,7 @@ pub record Answered (rs : List Record) (t : Tables) (file : List ℕ) (rs′ : L
 
 pub record Demand2 : Type 0 where
   pub holds : (cs : List Call) (c : Counts) (t : Tables) → LeftBy cs c t → Holds (plainAfter cs) c t
-  -- "A batch returns the number (0 if none) and how many records it took in; the tables show those records."
+  -- "A batch returns the number (0 if none) and how many records it took in; the tables show those records." Document 02, 2.3: and how many
+  -- edges it tried
   pub answer : (cs : List Call) (c : Counts) (t : Tables) → LeftBy cs c t → (file : List ℕ)
       → Answered (plainAfter cs) t file (plainAfter (batch t file ∷ cs)) (batchOf c t file .answer)

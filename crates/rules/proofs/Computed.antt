@@ -9,7 +9,7 @@ use Rattle.record.specs.Encode.{encodeOf}
 use Rattle.rules.specs.Sound.{every, allBelow, isObject, isSubject, sourceFits, targetFits, mayFollow, soundCounts, soundEntity, soundPrevious, soundVersion, timeBefore, entityTest, versionTest, edgeTest, countSum, isSound}
 use Rattle.rules.specs.Decide.{goesTo, newestTo, leaves, repeatOf, hasOutgoing, decisionOf}
 use Rattle.rules.specs.Record.{declarationRefusals, earlyRefusals, roomRefusals, eventRefusals, refusalOf, changeOf, triedFor}
-use Rattle.rules.specs.Batch.{readFrom, contentsOf, takeIn, triedIn, batchChecks, endOf, triedOf, batchOf}
+use Rattle.rules.specs.Batch.{readFrom, contentsOf, takeIn, triedIn, batchChecks, resultsOf, triedOf, batchOf}
 use Rattle.rules.specs.PlainList.{put, triedOver, added, addedBy}
 use Rattle.rules.specs.StandsFor.{standsFor}
 use Rattle.rules.specs.Start.{startFrom, startOf, timesInto, intakeOf}
@@ -23,5 +23,5 @@ use Rattle.rules.specs.RecordCases.{grown, grownThenDeclared}
 use Rattle.rules.specs.TriedCases.{eventsFrom}
 
 unfoldable pub computed : Type 0
-unfolding firstOf entityAt versionAt edgeAt putEntity putVersion putEdge entityCapacity versionCapacity edgeCapacity kindOf headerChecks declarationChecks eventChecks decodeOf decodeFrom encodeOf every allBelow isObject isSubject sourceFits targetFits mayFollow soundCounts soundEntity soundPrevious soundVersion timeBefore entityTest versionTest edgeTest countSum isSound goesTo newestTo leaves repeatOf hasOutgoing decisionOf declarationRefusals earlyRefusals roomRefusals eventRefusals refusalOf changeOf triedFor readFrom contentsOf takeIn triedIn batchChecks endOf triedOf batchOf startFrom startOf timesInto intakeOf follow pass passes seeded closed hasMarked marksBelow ones isFollowed edgesBack stepsBack backwardArcs backwardWork backwardEntities traceChecks backwardOf edgesOn stepsOn forwardArcs forwardWork forwardEntities forwardIntake forwardOf encodedBelow logBytes logChecks keptLogOf decimalIn spaced edgeLines recordNo refusedLine listingOf put triedOver added addedBy standsFor batch backward forward log grown grownThenDeclared eventsFrom
+unfolding firstOf entityAt versionAt edgeAt putEntity putVersion putEdge entityCapacity versionCapacity edgeCapacity kindOf headerChecks declarationChecks eventChecks decodeOf decodeFrom encodeOf every allBelow isObject isSubject sourceFits targetFits mayFollow soundCounts soundEntity soundPrevious soundVersion timeBefore entityTest versionTest edgeTest countSum isSound goesTo newestTo leaves repeatOf hasOutgoing decisionOf declarationRefusals earlyRefusals roomRefusals eventRefusals refusalOf changeOf triedFor readFrom contentsOf takeIn triedIn batchChecks resultsOf triedOf batchOf startFrom startOf timesInto intakeOf follow pass passes seeded closed hasMarked marksBelow ones isFollowed edgesBack stepsBack backwardArcs backwardWork backwardEntities traceChecks backwardOf edgesOn stepsOn forwardArcs forwardWork forwardEntities forwardIntake forwardOf encodedBelow logBytes logChecks keptLogOf decimalIn spaced edgeLines recordNo refusedLine listingOf put triedOver added addedBy standsFor batch backward forward log grown grownThenDeclared eventsFrom
 computed = Unit {0}

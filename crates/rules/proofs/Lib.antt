@@ -15,4 +15,5 @@ pub mod Start
 pub mod Intake
 pub mod Members
 pub mod Search
+pub mod TriedMost
 pub mod Tried

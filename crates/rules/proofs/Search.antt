@@ -1,6 +1,6 @@
 -- The search for a repeat from the newest edge (document 02, 2.3): what it finds is the edge that the event repeats, and what it tries is
 -- counted from there.
-use Prim.Native.Nat.{ℕ, zero, suc, _-_, _<_}
+use Prim.Native.Nat.{ℕ, zero, suc, _<_}
 use native.Mathlib.Omega.{arith}
 use mathlib.Core.Path.{_≡_, refl, sym, _∙_, ap}
 use mathlib.Core.Logic.{_⊎_, inl, inr}

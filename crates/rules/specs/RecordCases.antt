@@ -14,7 +14,7 @@ use Rattle.record.specs.declared.Record.the-variants as records
 use Rattle.rules.specs.declared.Found.the-variants.{At}
 use Rattle.rules.specs.Trail.{Tables, Trail, tables, trailOf, counts, freshCounts, none}
 use Rattle.rules.specs.Decide.{edgeNo, repeatOf}
-use Rattle.rules.specs.Batch.{Batched, ended, takeIn, batchOf}
+use Rattle.rules.specs.Batch.{Batched, results, takeIn, batchOf}
 use Rattle.rules.specs.Worked.{header, declarations, file, room, answer}
 use Rattle.rules.specs.Order.{declare, event, used, full}
 use Rattle.rules.specs.SoundCases.{entityRows, versionRows, edgeRows, versionsUsed}
@@ -147,6 +147,6 @@ pub record RecordCases : Type 0 where
   pub late-version : versionAt (grownThenDeclared .tables .versions) 6 ≡ versionRow 4 0 0 none
   -- a refused record leaves nothing of itself: reads that are not later, one that would be kept and one that would repeat
   pub refused-record : takeIn (versionsUsed 5) (longer 2 4 6) 0 (records.Event (read 3 1 9) ∷ []) Passed
-      ≡ ended (Refused NotLater) 0 (versionsUsed 5) (longer 2 4 6)
+      ≡ results (Refused NotLater) 0 (versionsUsed 5) (longer 2 4 6)
   pub refused-repeat : takeIn (versionsUsed 5) (longer 2 4 6) 0 (records.Event (read 0 1 9) ∷ []) Passed
-      ≡ ended (Refused NotLater) 0 (versionsUsed 5) (longer 2 4 6)
+      ≡ results (Refused NotLater) 0 (versionsUsed 5) (longer 2 4 6)

@@ -1,5 +1,5 @@
 -- Document 02, 2.3: "The search, however it is done now, should begin at the newest edge and stop at the first hit." The search as a
--- relation, and the number that a batch returns by it; what is claimed of both. The proof is in proofs/Search.antt.
+-- relation, and the number that a batch returns by it; what is claimed of both. The proofs are in proofs/Search.antt and proofs/Tried.antt.
 use Prim.Native.Nat.{ℕ, zero, suc, _+_, _*_, _≤_}
 use mathlib.Core.Path.{_≡_}
 use mathlib.Core.Logic.{_↔_}
@@ -17,8 +17,8 @@ use Rattle.rules.specs.declared.Found.{Found}
 use Rattle.rules.specs.declared.Found.the-variants.{At, Nothing}
 use Rattle.rules.specs.Trail.{Tables, capacityOf, Trail, trailOf, latestOf, ownerOf}
 use Rattle.rules.specs.Decide.{edgeNo, folds, repeatOf}
-use Rattle.rules.specs.Record.{refusalOf, changeOf, written}
-use Rattle.rules.specs.Batch.{contentsOf, batchChecks, endOf, batchOf}
+use Rattle.rules.specs.Record.{refusalOf, changeOf, triedFor, written}
+use Rattle.rules.specs.Batch.{contentsOf, batchChecks, resultsOf, batchOf}
 
 -- edge k goes from version f to some version of entity x
 pub record Hit (T : Trail) (f x k : ℕ) : Type 0 where
@@ -35,7 +35,7 @@ pub data Search (T : Trail) (f x : ℕ) : ℕ → ℕ → Found → Type 0 where
 abbrev pub SearchFor : Trail → Event → ℕ → Found → Type 0
 SearchFor T e tried found = Search T (latestOf T (e .source .0)) (e .target .0) (T .counts .edges) tried found
 
--- how many edges are tried for a record: "for each of kinds 1 to 3" those of one search, and for no other record any
+-- how many edges are tried for a record: "for each of kinds 1 to 3" those of one search, for another record none
 pub data Tried (T : Trail) : Record → ℕ → Type 0 where
   searched : {e : Event} {tried : ℕ} {found : Found} → folds (e .kind) ≡ true → SearchFor T e tried found → Tried T (records.Event e) tried
   skipped : {e : Event} → folds (e .kind) ≡ false → Tried T (records.Event e) 0
@@ -51,18 +51,20 @@ pub data AllTried : Counts → Tables → List Record → ℕ → Type 0 where
       → AllTried c t (r ∷ rs) (tried + more)
 
 pub record NewestFirst : Type 0 where
-  -- the search finds the edge that an event of kinds 1 to 3 repeats, if any
-  pub finds : (T : Trail) (e : Event) → folds (e .kind) ≡ true → (tried : ℕ) (found : Found) → SearchFor T e tried found → found ≡ repeatOf T e
+  -- for an event of kinds 1 to 3 the search ends in one way: with the edge that the event repeats, if any, and with the number that is
+  -- counted for it
+  pub finds : (T : Trail) (e : Event) → folds (e .kind) ≡ true → (tried : ℕ) (found : Found)
+      → SearchFor T e tried found ↔ ((tried ≡ triedFor T (records.Event e)) × (found ≡ repeatOf T e))
   -- a batch whose tables or header are refused tries no edge; else it returns the number of the searches, and no other
   pub none : (c : Counts) (t : Tables) (file : List ℕ) (x : Refusal) → firstOf (batchChecks c t file) ≡ Refused x → batchOf c t file .answer .tried ≡ 0
   pub all : (c : Counts) (t : Tables) (file : List ℕ) → firstOf (batchChecks c t file) ≡ Passed → (tried : ℕ)
       → AllTried c t (contentsOf file .records) tried ↔ (tried ≡ batchOf c t file .answer .tried)
-  -- "Other results are as in 2.1": those of `endOf`, which is 2.1's batch; no number of edges tried goes into it
+  -- "Other results are as in 2.1": those of `resultsOf`, in which no number of edges tried occurs
   pub others : (c : Counts) (t : Tables) (file : List ℕ)
-      → (batchOf c t file .answer .refusal ≡ numberOf (endOf c t file .checked))
-      × (batchOf c t file .answer .taken ≡ endOf c t file .taken)
-      × (batchOf c t file .counts ≡ endOf c t file .counts)
-      × (batchOf c t file .tables ≡ endOf c t file .tables)
+      → (batchOf c t file .answer .refusal ≡ numberOf (resultsOf c t file .checked))
+      × (batchOf c t file .answer .taken ≡ resultsOf c t file .taken)
+      × (batchOf c t file .counts ≡ resultsOf c t file .counts)
+      × (batchOf c t file .tables ≡ resultsOf c t file .tables)
   -- the sum is at most the records taken in times the edges at the end
   pub most : (c : Counts) (t : Tables) (file : List ℕ)
       → batchOf c t file .answer .tried ≤ batchOf c t file .answer .taken * batchOf c t file .counts .edges

@@ -40,7 +40,7 @@ declaredIn e v =
     batchOf freshCounts (tables (replicate e 7) (replicate v 7) (replicate 48 7)) (header ++ (declare 0 0 ++ (declare 1 1 ++ (event 1 0 1 1 ++ (event 1 0 1 2 ++ declare 2 1)))))
     .answer
 
--- the rows of `full`, and a file of one record, with byte b at i: a read that repeats the edge
+-- a file of one record, a read that repeats the edge of `full`, with byte b at i, taken into tables t
 abbrev pub repeatWith : Tables → ℕ → ℕ → BatchAnswer
 repeatWith t i b = batchOf (used 1) t (set (header ++ event 1 0 1 6) i b) .answer
 

@@ -15,7 +15,7 @@ use Rattle.record.specs.declared.Record.{Record}
 use Rattle.rules.specs.Trail.{Tables, capacityOf, Trail, trailOf}
 use Rattle.rules.specs.Sound.{isSound}
 use Rattle.rules.specs.Record.{refusalOf}
-use Rattle.rules.specs.Batch.{Ended, ended, answered, takeIn, contentsOf, batchChecks, endOf, batchOf}
+use Rattle.rules.specs.Batch.{Results, results, answered, takeIn, contentsOf, batchChecks, resultsOf, batchOf}
 use Rattle.soundness.specs.Taken.{SortFits, Each}
 use Rattle.soundness.specs.Frame.{CountsGrow, SameOrMore, RowsStay, Framed, Frame}
 use Rattle.soundness.proofs.Taken.{passed-at}
@@ -85,7 +85,7 @@ module _ {T T1 T2 : Trail} {m n : ℕ} (g : CountsGrow (T .counts) (T1 .counts) 
         last-within = b .last-within;
       })
 
-framed-refl : (c : Counts) (t : Tables) (w : ℕ) (x : Checked) → Framed c t (answered (ended x 0 c t) w)
+framed-refl : (c : Counts) (t : Tables) (w : ℕ) (x : Checked) → Framed c t (answered (results x 0 c t) w)
 framed-refl c t w x = record {
   counts = search arith;
   entities = past-refl _ _;
@@ -95,8 +95,8 @@ framed-refl c t w x = record {
   none-taken = λ e. (refl, refl);
 }
 
-framed-trans : (w : ℕ) (x : Checked) {c c1 c2 : Counts} {t t1 t2 : Tables} {m n : ℕ} → Framed c t (answered (ended x m c1 t1) w)
-    → Framed c1 t1 (answered (ended x n c2 t2) w) → Framed c t (answered (ended x (m + n) c2 t2) w)
+framed-trans : (w : ℕ) (x : Checked) {c c1 c2 : Counts} {t t1 t2 : Tables} {m n : ℕ} → Framed c t (answered (results x m c1 t1) w)
+    → Framed c1 t1 (answered (results x n c2 t2) w) → Framed c t (answered (results x (m + n) c2 t2) w)
 framed-trans w x p q =
     let g = p .counts in
     let h = q .counts in
@@ -117,17 +117,17 @@ framed-trans w x p q =
 module _ (c : Counts) (t : Tables) (w : ℕ) where
   -- c1 and t1 are what n records left
   takeIn-framed : (rs : List Record) (c1 : Counts) (t1 : Tables) (n : ℕ) (ending : Checked) → Each SortFits rs → isSound (capacityOf t1) (trailOf c1 t1) ≡ true
-      → ((x : Checked) → Framed c t (answered (ended x n c1 t1) w)) → Framed c t (answered (takeIn c1 t1 n rs ending) w)
+      → ((x : Checked) → Framed c t (answered (results x n c1 t1) w)) → Framed c t (answered (takeIn c1 t1 n rs ending) w)
   unfolding takeIn
   takeIn-framed [] c1 t1 n ending f s p = p ending
   takeIn-framed (r ∷ rs) c1 t1 n ending f s p =
       let x = refusalOf (capacityOf t1) (trailOf c1 t1) r in
-      ifRefused-passed (λ (b : Ended). Framed c t (answered b w)) x _ _ (p x)
+      ifRefused-passed (λ (b : Results). Framed c t (answered b w)) x _ _ (p x)
       (λ q. takeIn-framed rs _ _ (n + 1) ending (f .1) (step-sound c1 t1 r s q (f .0)) (λ y. framed-trans w y (p y) (step-framed c1 t1 s r q y w)))
 
 pub frame : Frame
-unfolding batchOf endOf batchChecks
+unfolding batchOf resultsOf batchChecks
 frame c t file =
     let w = batchOf c t file .answer .tried in
-    ifRefused-passed (λ (b : Ended). Framed c t (answered b w)) (firstOf (batchChecks c t file)) _ _ (framed-refl c t w (firstOf (batchChecks c t file)))
+    ifRefused-passed (λ (b : Results). Framed c t (answered b w)) (firstOf (batchChecks c t file)) _ _ (framed-refl c t w (firstOf (batchChecks c t file)))
     (λ q. takeIn-framed c t w (contentsOf file .records) c t 0 (contentsOf file .ending) (contents-fit file) (not-false _ (passed-at _ q 0)) (framed-refl c t w))

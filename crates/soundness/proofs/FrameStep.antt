@@ -15,7 +15,7 @@ use Rattle.rules.specs.Trail.{Tables, Capacity, capacityOf, Trail, trailOf}
 use Rattle.rules.specs.Sound.{isSound}
 use Rattle.rules.specs.Decide.{decisionOf}
 use Rattle.rules.specs.Record.{refusalOf, happened, changeOf, written}
-use Rattle.rules.specs.Batch.{ended, answered}
+use Rattle.rules.specs.Batch.{results, answered}
 use Rattle.soundness.specs.Facts.{RowFacts}
 use Rattle.soundness.specs.Taken.{EventTaken}
 use Rattle.soundness.specs.Frame.{CountsGrow, RowsStay, Framed}
@@ -67,7 +67,7 @@ module _ (c : Counts) (t : Tables) (s : isSound (capacityOf t) (trailOf c t) ≡
     past : AllPastStay (inUse (changeOf T r .counts)) t (written t (changeOf T r .writes))
     past = past-written _ t (changeOf T r .writes) (writes-in-use cap T facts r h)
 
-    pub step-framed : (x : Checked) (w : ℕ) → Framed c t (answered (ended x 1 (changeOf T r .counts) (written t (changeOf T r .writes))) w)
+    pub step-framed : (x : Checked) (w : ℕ) → Framed c t (answered (results x 1 (changeOf T r .counts) (written t (changeOf T r .writes))) w)
     step-framed x w = record {
       counts = counts-grow cap T facts r h;
       entities = past .entities;

@@ -22,8 +22,9 @@ impl FullList {
         let newest = before.iter().rev().position(goes_there);
         match newest {
             _ if !event.kind.may_repeat() => 0,
-            Some(newer) if !accepted.kept => newer + 1,
-            _ => before.len(),
+            _ if accepted.kept => before.len(),
+            Some(newer) => newer + 1,
+            None => panic!("an event was dropped that no kept one stands for"),
         }
     }
 

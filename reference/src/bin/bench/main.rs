@@ -60,13 +60,13 @@ fn fresh_trails() -> Vec<Line> {
         from_fresh("both tables filled", Goal::Batch, &FULL.file(), 1),
         from_fresh(
             "20 objects read by 100 subjects",
-            Goal::None,
+            Goal::Batch,
             &FEW_OBJECTS.over_and_over(),
             1,
         ),
         from_fresh(
             "1,000 objects read by 2,048 subjects",
-            Goal::None,
+            Goal::Batch,
             &MANY_OBJECTS.once_each(),
             1,
         ),

@@ -2,8 +2,8 @@
 //! and every number and byte of every lent buffer, guard values included.
 //!
 //! `compare [SEED] [ROUNDS]` ends with status 1 at the first difference, or if
-//! a refusal that can occur never did, or no batch tried edges with it, or none
-//! tried more than 32 bits can say.
+//! a refusal that can occur never did, if no batch tried edges under one that
+//! allows it, or if none tried more than 32 bits hold.
 
 mod calls;
 mod caps;

@@ -1,4 +1,5 @@
-//! Batches that try more edges than 32 bits can say.
+//! Batches that try more edges than 32 bits hold. Such long files the
+//! reference takes in without a plain scan; its tests hold the two together.
 
 use crate::comparison::{Compared, Comparison};
 use reference::capacity::{MOST_EDGES, MOST_VERSIONS};
@@ -8,8 +9,8 @@ use reference::{Answer, FileBuilder, Random, TableLengths, Tables};
 /// So many repeats of the oldest edge try 2^32 edges.
 const REPEATS: u32 = 1 << 14;
 
-/// A trail with all edge rows in use, many by forks and execves, and repeats
-/// of its oldest edge: one fewer than try 2^32 edges, as many, and one more.
+/// A trail with all edge rows in use, all but the first by forks and execves,
+/// and repeats of its oldest edge: one fewer than try 2^32 edges, as many, and one more.
 pub fn past_32_bits(comparison: &mut Comparison, _: &mut Random) -> Compared {
     let mut filled = Tables::fresh(TableLengths::of_rows(5, MOST_VERSIONS, MOST_EDGES));
     let fresh = filled.clone();
