@@ -50,11 +50,11 @@ extern "C" {
 
 /*
  * How many bytes of stack a thread needs that only makes the call, whatever it is lent, refused or not. Most of it is local
- * arrays of a fixed length: 135,168 bytes in each call for the test of the tables, 1,441,792 more in slt_batch for the index
- * of the edges. Some 16,000 are for what the C library has on the thread's stack; frames and thread-local variables of the
+ * arrays of a fixed length: 1,589,248 bytes in slt_batch for the index of the edges, 135,168 in the other calls for the test of
+ * the tables. Some 16,000 are for what the C library has on the thread's stack; frames and thread-local variables of the
  * caller come on top. On a thread with less a call ends in a fault at the guard page. c/stack.c makes each call with just this.
  */
-#define SLT_BATCH_STACK 1600000
+#define SLT_BATCH_STACK 1610000
 #define SLT_TRACE_STACK 160000
 #define SLT_LOG_STACK 160000
 

@@ -52,11 +52,12 @@ set-same (x ∷ xs) zero = refl
 set-same (x ∷ xs) (suc i) = ap (λ (ys : List ℕ). x ∷ ys) (set-same xs i)
 
 -- the last two of a run of six, of which the first four stand already
-pub last-pair : (xs x1 : List ℕ) (i e f : ℕ) → x1 ≡ sets xs (i + 4) (e ∷ f ∷ [])
-    → x1 ≡ sets xs i (getD xs i 0 ∷ getD xs (i + 1) 0 ∷ getD xs (i + 2) 0 ∷ getD xs (i + 3) 0 ∷ e ∷ f ∷ [])
-last-pair xs x1 i e f p =
+pub last-pair : (xs : List ℕ) (i e f : ℕ)
+    → set (set xs (i + 4) e) (i + 5) f ≡ sets xs i (getD xs i 0 ∷ getD xs (i + 1) 0 ∷ getD xs (i + 2) 0 ∷ getD xs (i + 3) 0 ∷ e ∷ f ∷ [])
+last-pair xs i e f =
     let e1 : i + 1 ≡ suc i = omega arith in
     let e2 : i + 2 ≡ suc (suc i) = omega arith in
     let e3 : i + 3 ≡ suc (suc (suc i)) = omega arith in
     let e4 : i + 4 ≡ suc (suc (suc (suc i))) = omega arith in
-    rw (p, e1, e2, e3, e4, set-same xs i, set-same xs (suc i), set-same xs (suc (suc i)), set-same xs (suc (suc (suc i))))
+    let e5 : i + 5 ≡ suc (suc (suc (suc (suc i)))) = omega arith in
+    rw (e1, e2, e3, e4, e5, set-same xs i, set-same xs (suc i), set-same xs (suc (suc i)), set-same xs (suc (suc (suc i))))
