@@ -19,7 +19,7 @@ mod worst;
 use batches::{from_fresh, FullTrail, FULL, MILLION, STAGERS};
 use growth::Growth;
 use line::{Goal, Line};
-use readers::{FEW_OBJECTS, MANY_OBJECTS};
+use readers::{FEW_OBJECTS, MANY_OBJECTS, MANY_PAIRS};
 use std::process::ExitCode;
 use std::thread;
 
@@ -62,6 +62,12 @@ fn fresh_trails() -> Vec<Line> {
             "20 objects read by 100 subjects",
             Goal::Batch,
             &FEW_OBJECTS.over_and_over(),
+            1,
+        ),
+        from_fresh(
+            "100 objects read by 500 subjects",
+            Goal::Batch,
+            &MANY_PAIRS.over_and_over(),
             1,
         ),
         from_fresh(

@@ -12,6 +12,14 @@ pub const FEW_OBJECTS: Readers = Readers {
     events: MOST_ACCEPTED,
 };
 
+/// Five hundred edges leave each object, 50,000 in all: more than the library
+/// keeps hints for.
+pub const MANY_PAIRS: Readers = Readers {
+    objects: 100,
+    subjects: 500,
+    events: 300_000,
+};
+
 /// Some 262 edges leave each object.
 pub const MANY_OBJECTS: Readers = Readers {
     objects: 1_000,
