@@ -23,12 +23,15 @@ extern "C" {
 /*
  * The tables hold rows of 32-bit numbers, one row after the other, numbered from 0:
  *
- *   entity   sort (0 object, 1 subject), latest version
+ *   entity   sort (0 object, 1 subject, 2 signed object), latest version
  *   version  entity, start, end, previous version (SLT_NONE for none)
  *   edge     from version, to version, kind (1 read, 2 write, 3 load, 4 fork, 5 execve), time, count, last
  *
  * An edge stands for the event that was kept as it, at its time, and for those that repeat it: the count says how many these are,
  * and last is the time of the last one. The counts of all edges add up to the events accepted.
+ *
+ * A signed object counts as an object, but no event goes into it any more. Events out of it go on, and traces are as without the
+ * signature.
  *
  * A table's capacity is its whole rows, at most SLT_MOST_.. of them; numbers past that are neither read nor written. Time is
  * in hundredths of a second since the trail began.
@@ -44,7 +47,12 @@ extern "C" {
 
 #define SLT_NONE UINT32_C(0xFFFFFFFF)
 
-/* An event file has a header of 8 bytes and records of 12. */
+/*
+ * An event file has a header of 8 bytes, in bytes 3-4 its version, and records of 12, in byte 0 their kind: declarations (0), events
+ * (1 to 5) and, in files of version 2 alone, signatures (6). A signature has the number of the object that it signs in bytes 2-3,
+ * and 0 in the bytes after these and in byte 1. Declarations and events are the same in files of version 1 and 2; a declaration
+ * has sort 0 or 1. Numbers are little-endian.
+ */
 #define SLT_HEADER_LENGTH 8
 #define SLT_RECORD_LENGTH 12
 
@@ -60,7 +68,8 @@ extern "C" {
 
 /*
  * How many rows of each table are in use, how many events were accepted, and the time of the last one. All five 0 is a fresh
- * trail, whatever the tables hold. Rows past the counts mean nothing and are not written, except those that a record adds.
+ * trail, whatever the tables hold. Rows past the counts mean nothing and are not written, except those that a record adds. A
+ * signature is no event: it changes none of the five.
  */
 typedef struct slt_counts {
     uint32_t entities;
@@ -75,13 +84,13 @@ enum slt_refusal {
     SLT_NOT_REFUSED = 0,
     /* because of the input */
     SLT_NOT_EVENT_FILE = 1,    /* under 8 bytes, or the mark "SLT" or the three zero bytes of the header differ */
-    SLT_WRONG_VERSION = 2,     /* the header's version is not 1 */
+    SLT_WRONG_VERSION = 2,     /* the header's version is neither 1 nor 2 */
     SLT_CUT_SHORT = 3,         /* 1 to 11 bytes remain */
-    SLT_BAD_FIELD = 4,         /* kind above 5, sort above 1, or a zero field that is not 0 */
+    SLT_BAD_FIELD = 4,         /* kind above 5 (in version 2 files above 6), declared sort above 1, or a zero field that is not 0 */
     SLT_UNDECLARED = 5,        /* an entity is not declared */
     SLT_NOT_NEXT = 6,          /* the declared number is not the next */
     SLT_SOURCE_IS_TARGET = 7,  /* source equals target */
-    SLT_WRONG_SORT = 8,        /* source or target of a sort that the kind does not allow */
+    SLT_WRONG_SORT = 8,        /* source or target of a sort that the kind does not allow; a signature of a subject */
     SLT_NOT_LATER = 9,         /* time not above the last accepted time */
     /* because of the state */
     SLT_ENTITIES_FULL = 10,    /* no entity row left */
@@ -90,7 +99,9 @@ enum slt_refusal {
     SLT_ACCEPTED_FULL = 13,    /* SLT_MOST_ACCEPTED events are accepted */
     SLT_BUFFER_SHORT = 14,     /* work buffer shorter than the versions, or mark buffer than the entities */
     SLT_OUTPUT_SHORT = 15,     /* output shorter than the kept log */
-    SLT_UNSOUND = 16           /* the counts and tables are not sound: crates/rules/specs/Sound.antt */
+    SLT_UNSOUND = 16,          /* the counts and tables are not sound: crates/rules/specs/Sound.antt */
+    /* because of a signature */
+    SLT_SIGNED = 17            /* an event into a signed object, or a second signature of it */
 };
 
 /* `refusal` is one of slt_refusal in each answer. */
@@ -131,11 +142,13 @@ typedef struct slt_log_answer {
 /*
  * Takes the records of an event file in, in order until the first one refused. A read, write or load that repeats what an edge from
  * its source's latest version gave its target keeps no edge: it adds one to the count of the newest such edge and sets its last time.
+ * A signature makes an object a signed one, and changes nothing but its sort. From then on every event into it is refused, one that
+ * would be a repeat too, in files of both versions.
  *
- * Refused with 16, 1, 2, then at each record with 3, 4; a declaration with 6, 10, 11; an event with 5, 7, 8, 9, 13, 12, 11.
- * Refused with 16, 1 or 2 it takes nothing in, tries no edge and writes nothing. Refused at a record, it leaves the counts and
- * the tables as the records before that one made them; `taken` says how many they are, and `tried` is for them. Not refused, it
- * has taken all of them in.
+ * Refused with 16, 1, 2, then at each record with 3, 4; a declaration with 6, 10, 11; an event with 5, 7, 8, 17, 9, 13, 12, 11; a
+ * signature with 5, 8, 17. Refused with 16, 1 or 2 it takes nothing in, tries no edge and writes nothing. Refused at a record, it
+ * leaves the counts and the tables as the records before that one made them; `taken` says how many they are, and `tried` is for
+ * them. Not refused, it has taken all of them in.
  */
 slt_batch_answer slt_batch(
     slt_counts *counts,
@@ -183,10 +196,11 @@ slt_forward_answer slt_forward(
     uint8_t *marks, size_t marks_length);
 
 /*
- * Writes the kept log to the start of `out`: an event file with the header, all declarations by number, then all edges in
- * order as events. It has SLT_HEADER_LENGTH + SLT_RECORD_LENGTH * (entities + edges) bytes, which is the length returned. Counts and
- * last times are not in it: a fresh trail that takes in the log of a trail that batches grew from a fresh one has edges that each
- * stand for their own event alone.
+ * Writes the kept log to the start of `out`: an event file with the header, all declarations by number, all edges in order as
+ * events, then the signatures of all signed objects by number. A signed object is declared as any other, with sort 0. The file is
+ * of version 2 if there is a signature, else of version 1. It has SLT_HEADER_LENGTH + SLT_RECORD_LENGTH * (entities + edges +
+ * signed objects) bytes, which is the length returned. Counts and last times are not in it: a fresh trail that takes in the log of a
+ * trail that batches grew from a fresh one has the same signed objects, and edges that each stand for their own event alone.
  *
  * Refused with 16, 15; then the length is 0 and nothing is written. Bytes after the log are left alone.
  */

@@ -1,7 +1,8 @@
 //! Builds event files.
 
-use crate::file::HEADER;
-use crate::record::{encode, Declaration, Event, Kind, Record, Sort, RECORD_BYTES};
+use crate::file::header;
+use crate::file_version::FileVersion;
+use crate::record::{encode, Declaration, Event, Kind, Record, Signature, Sort, RECORD_BYTES};
 
 /// An event file under construction; it begins with the header.
 #[derive(Clone, Debug)]
@@ -16,9 +17,19 @@ impl Default for FileBuilder {
 }
 
 impl FileBuilder {
+    /// A file of version 1.
     pub fn new() -> FileBuilder {
+        FileBuilder::of_version(FileVersion::One)
+    }
+
+    /// A file of version 2, which may hold signatures.
+    pub fn version_2() -> FileBuilder {
+        FileBuilder::of_version(FileVersion::Two)
+    }
+
+    pub fn of_version(version: FileVersion) -> FileBuilder {
         FileBuilder {
-            bytes: HEADER.to_vec(),
+            bytes: header(version).to_vec(),
         }
     }
 
@@ -60,6 +71,11 @@ impl FileBuilder {
     pub fn subject(self, number: u16) -> FileBuilder {
         let sort = Sort::Subject;
         self.declaration(Declaration { number, sort })
+    }
+
+    /// Signs an object.
+    pub fn sign(self, entity: u16) -> FileBuilder {
+        self.record(Record::Signature(Signature { entity }))
     }
 
     pub fn read(self, source: u16, target: u16, time: u32) -> FileBuilder {

@@ -4,11 +4,12 @@
 pub const NONE: u32 = 0;
 /// Under 8 bytes, or the mark or the three zero bytes differ.
 pub const HEADER: u32 = 1;
-/// The file's version is not 1.
+/// The file's version is neither 1 nor 2.
 pub const FILE_VERSION: u32 = 2;
 /// One to 11 bytes remain.
 pub const CUT_RECORD: u32 = 3;
-/// Kind above 5, sort above 1, or a zero field not 0.
+/// Kind above 5, or above 6 in a version 2 file; sort above 1; a zero field
+/// not 0.
 pub const FIELD: u32 = 4;
 /// Entity not declared.
 pub const UNDECLARED: u32 = 5;
@@ -16,7 +17,7 @@ pub const UNDECLARED: u32 = 5;
 pub const NOT_NEXT: u32 = 6;
 /// Source equals target.
 pub const SAME_ENTITY: u32 = 7;
-/// Source or target of the wrong sort.
+/// Source or target of the wrong sort, or a signature on a subject.
 pub const WRONG_SORT: u32 = 8;
 /// Time not above the last accepted time.
 pub const TIME: u32 = 9;
@@ -34,3 +35,5 @@ pub const BUFFER: u32 = 14;
 pub const OUTPUT: u32 = 15;
 /// Tables not sound.
 pub const UNSOUND: u32 = 16;
+/// An event into a signed object, or a second signature.
+pub const SIGNED: u32 = 17;

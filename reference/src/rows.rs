@@ -12,6 +12,9 @@ pub fn write_row<const SIZE: usize>(table: &mut [u32], number: u32, row: [u32; S
     table[first..first + SIZE].copy_from_slice(&row);
 }
 
+/// The sort in the row of a signed object. Other rows hold the sort declared.
+pub const SIGNED: u32 = 2;
+
 #[derive(Clone, Copy, Debug, PartialEq, Eq)]
 pub struct EntityRow {
     pub sort: u32,
@@ -25,6 +28,19 @@ impl EntityRow {
             sort: sort.number(),
             latest: number,
         }
+    }
+
+    /// The sort declared: a signed object is an object. None if no sound row
+    /// holds this sort.
+    pub fn declared_sort(self) -> Option<Sort> {
+        match self.sort {
+            SIGNED => Some(Sort::Object),
+            sort => Sort::from_number(sort),
+        }
+    }
+
+    pub fn is_signed(self) -> bool {
+        self.sort == SIGNED
     }
 
     pub fn from_numbers(row: &[u32]) -> EntityRow {

@@ -59,6 +59,11 @@ impl Tables {
         }
     }
 
+    /// Writes an entity row.
+    pub fn set_entity(&mut self, number: u32, row: EntityRow) {
+        write_row(&mut self.entities, number, row.numbers());
+    }
+
     /// Writes an edge row.
     pub fn set_edge(&mut self, number: u32, row: EdgeRow) {
         write_row(&mut self.edges, number, row.numbers());

@@ -4,25 +4,25 @@ use native.Mathlib.Omega.{arith}
 use mathlib.Core.Path.{_≡_, refl, sym, _∙_, ap, subst}
 use mathlib.Core.List.{List, [], _∷_}
 use Rattle.refusals.specs.declared.Checked.the-variants.{Passed}
-use Rattle.rows.specs.declared.EntityRow.{EntityRow}
 use Rattle.record.specs.declared.Declaration.{Declaration}
 use Rattle.record.specs.declared.Event.{Event}
 use Rattle.record.specs.declared.Record.{Record}
 use Rattle.record.specs.declared.Record.the-variants as records
 use Rattle.record.specs.Layout.{kindNo}
+use Rattle.record.specs.declared.Signature.{Signature}
 use Rattle.rules.specs.declared.Decision.{Decision}
 use Rattle.rules.specs.declared.Decision.the-variants.{Repeat, Widen, Renew}
 use Rattle.rules.specs.Trail.{Capacity, Trail, fresh}
-use Rattle.rules.specs.Sound.{sourceFits, targetFits}
+use Rattle.rules.specs.Sound.{isSubject, isSigned}
 use Rattle.rules.specs.Decide.{decisionOf}
-use Rattle.rules.specs.Record.{declared, happened, refusalOf, changeOf}
+use Rattle.rules.specs.Record.{happened, refusalOf, changeOf}
 use Rattle.rules.specs.PlainList.{changed, worked, itemsOf}
 use Rattle.rules.specs.History.{Item, kept, itemOf, keptEvents}
 use Rattle.rules.specs.Calls.{EnoughRows}
+use Rattle.rules.specs.KeptLog.{declaredSort}
 use Rattle.soundness.specs.Taken.{RoomLeft, EventTaken}
 use Rattle.soundness.proofs.Hit.{decision-found}
-use Rattle.soundness.proofs.Taken.{event-taken}
-use Rattle.soundness.proofs.Put.{put-other}
+use Rattle.soundness.proofs.Taken.{event-taken, signature-taken}
 use Rattle.causality.specs.Working.{Grown}
 use Rattle.agreement.specs.Taken.{Within, Taken, begun, next}
 use Rattle.agreement.proofs.Plain.{taken-fine}
@@ -30,41 +30,15 @@ use Rattle.agreement.proofs.KeptOnly.{allKept, keptEvents-allKept}
 use Rattle.agreement.proofs.Decided.{decision-again}
 use Rattle.agreement.proofs.Passing.{event-passes, KeptStep, made, happened-step}
 use Rattle.agreement.proofs.Relogged.{relogged, TakenBy, takenBy-taken, declares}
-
--- T is on the way to F: what is to come adds no fewer versions than entities
-pub record Before (T F : Trail) : Type 0 where
-  pub entities : T .counts .entities ≤ F .counts .entities
-  pub versions : T .counts .versions + F .counts .entities ≤ F .counts .versions + T .counts .entities
-  pub edges : T .counts .edges ≤ F .counts .edges
-  pub sorts : (x : ℕ) → x < T .counts .entities → T .entity x .sort ≡ F .entity x .sort
-
-before-declared : (T F : Trail) (d : Declaration) → Before (changed T (declared (T .counts) d)) F → Before T F
-before-declared T F d b = record {
-  entities = omega (arith, b .entities);
-  versions = omega (arith, b .versions);
-  edges = b .edges;
-  sorts = λ x l. ap (λ (r : EntityRow). r .sort) (sym (put-other (T .entity) _ _ x (λ q. omega arith))) ∙ b .sorts x (omega arith);
-}
-
-before-kept : (T T′ F : Trail) (e : Event) (n : ℕ) → KeptStep T T′ e n → Before T′ F → Before T F
-before-kept T T′ F e n s b = record {
-  entities = omega (arith, s .entities, b .entities);
-  versions = omega (arith, s .entities, s .versions, b .versions);
-  edges = omega (arith, s .edges, b .edges);
-  sorts = λ x l. sym (s .sorts x) ∙ b .sorts x (omega (arith, s .entities));
-}
-
-before-event : (T F : Trail) (e : Event) (d : Decision) → Before (changed T (happened T e d)) F → Before T F
-before-event T F e (Repeat k) b = record { entities = b .entities; versions = b .versions; edges = b .edges; sorts = b .sorts }
-before-event T F e Widen b = before-kept T _ F e _ (happened-step T e Widen refl) b
-before-event T F e Renew b = before-kept T _ F e _ (happened-step T e Renew refl) b
+use Rattle.soundness.proofs.Sorts.{source-same, target-same, declared-subject, declared-unsigned}
+use Rattle.agreement.proofs.Before.{Before, before-declared, before-kept, before-event, before-signed}
 
 -- the kept events of a trail T that goes on to F, worked again after all declarations of F
 pub record Regrown (cap : Capacity) (F T : Trail) (ks : List Event) : Type 0 where
   pub by : TakenBy cap (relogged F ks)
   pub items : itemsOf (relogged F ks) ≡ allKept ks
   pub entities : worked (relogged F ks) .counts .entities ≡ F .counts .entities
-  pub sorts : (x : ℕ) → x < F .counts .entities → worked (relogged F ks) .entity x .sort ≡ F .entity x .sort
+  pub sorts : (x : ℕ) → x < F .counts .entities → worked (relogged F ks) .entity x .sort ≡ declaredSort (F .entity x .sort)
   pub versions : worked (relogged F ks) .counts .versions + T .counts .entities ≡ T .counts .versions + F .counts .entities
   pub edges : worked (relogged F ks) .counts .edges ≡ T .counts .edges
   pub accepted : worked (relogged F ks) .counts .accepted ≤ T .counts .accepted
@@ -96,8 +70,11 @@ module _ (F : Trail) (cap : Capacity) (w : Within cap) (room : EnoughRows cap (F
     decided =
         decision-again g again (sym (keptEvents-allKept (keptEvents hs)) ∙ ap keptEvents (sym (r .items))) e (p .source-in) (p .target-in) source-in target-in (rw q k) ∙ q
 
-    sort-again : (x : ℕ) → x < T .counts .entities → T .entity x .sort ≡ worked R .entity x .sort
-    sort-again x l = before .sorts x l ∙ sym (r .sorts x (omega (arith, before .entities)))
+    sort-again : (x : ℕ) → x < T .counts .entities → worked R .entity x .sort ≡ declaredSort (F .entity x .sort)
+    sort-again x l = r .sorts x (omega (arith, before .entities))
+
+    subject-again : (x : ℕ) → x < T .counts .entities → isSubject (worked R .entity x .sort) ≡ isSubject (T .entity x .sort)
+    subject-again x l = ap isSubject (sort-again x l) ∙ declared-subject (F .entity x .sort) ∙ sym (before .subjects x l)
 
     edge-again : worked R .counts .edges < cap .edges
     edge-again = omega (arith, r .edges, step .edges, b .edges, room .edges)
@@ -112,8 +89,9 @@ module _ (F : Trail) (cap : Capacity) (w : Within cap) (room : EnoughRows cap (F
       source-in = source-in;
       target-in = target-in;
       apart = p .apart;
-      source-fits = ap (sourceFits (kindNo (e .kind))) (sym (sort-again _ (p .source-in))) ∙ p .source-fits;
-      target-fits = ap (targetFits (kindNo (e .kind))) (sym (sort-again _ (p .target-in))) ∙ p .target-fits;
+      source-fits = source-same (kindNo (e .kind)) _ _ (subject-again _ (p .source-in)) ∙ p .source-fits;
+      target-fits = target-same (kindNo (e .kind)) _ _ (subject-again _ (p .target-in)) ∙ p .target-fits;
+      unsigned = ap isSigned (sort-again _ (p .target-in)) ∙ declared-unsigned (F .entity (e .target .0) .sort);
       later = omega (arith, p .later, r .last);
       accepted-left = omega (arith, p .accepted-left, r .accepted);
       room-left = room-again d refl;
@@ -155,37 +133,48 @@ module _ (F : Trail) (cap : Capacity) (w : Within cap) (room : EnoughRows cap (F
   regrown-event T e Widen cap₀ g q p b r = regrown-kept T e Widen cap₀ g q refl p b r
   regrown-event T e Renew cap₀ g q p b r = regrown-kept T e Renew cap₀ g q refl p b r
 
-  module _ (low : (x : ℕ) → x < F .counts .entities → F .entity x .sort ≤ 1) where
-    regrown-begun : Before fresh F → Regrown cap F fresh []
-    regrown-begun b =
-        let o = declares F cap room low (omega (arith, b .versions)) (F .counts .entities) (omega arith) in
-        record {
-          by = o .by;
-          items = o .items;
-          entities = o .entities;
-          sorts = o .sorts;
-          versions = omega (arith, o .versions);
-          edges = o .edges;
-          accepted = omega (arith, o .accepted);
-          last = omega (arith, o .last);
-        }
+  regrown-begun : Before fresh F → Regrown cap F fresh []
+  regrown-begun b =
+      let o = declares F cap room (omega (arith, b .versions)) (F .counts .entities) (omega arith) in
+      record {
+        by = o .by;
+        items = o .items;
+        entities = o .entities;
+        sorts = o .sorts;
+        versions = omega (arith, o .versions);
+        edges = o .edges;
+        accepted = omega (arith, o .accepted);
+        last = omega (arith, o .last);
+      }
 
-    pub regrown : {rs : List Record} → Taken rs → Before (worked rs) F → Regrown cap F (worked rs) (keptEvents (itemsOf rs))
-    unfolding refusalOf changeOf
-    regrown begun b = regrown-begun b
-    regrown (next {rs = rs} t cap₀ u (records.Declaration d) s h) b =
-        let r = regrown t (before-declared (worked rs) F d b) in
-        record {
-          by = r .by;
-          items = r .items;
-          entities = r .entities;
-          sorts = r .sorts;
-          versions = omega (arith, r .versions);
-          edges = r .edges;
-          accepted = r .accepted;
-          last = r .last;
-        }
-    regrown (next {rs = rs} t cap₀ u (records.Event e) s h) b =
-        let T = worked rs in
-        let d = decisionOf T e in
-        regrown-event T e d cap₀ (taken-fine t .grown) refl (event-taken cap₀ T e h) b (regrown t (before-event T F e d b))
+  pub regrown : {rs : List Record} → Taken rs → Before (worked rs) F → Regrown cap F (worked rs) (keptEvents (itemsOf rs))
+  unfolding refusalOf changeOf
+  regrown begun b = regrown-begun b
+  regrown (next {rs = rs} t cap₀ u (records.Declaration d) s h) b =
+      let r = regrown t (before-declared (worked rs) F d b) in
+      record {
+        by = r .by;
+        items = r .items;
+        entities = r .entities;
+        sorts = r .sorts;
+        versions = omega (arith, r .versions);
+        edges = r .edges;
+        accepted = r .accepted;
+        last = r .last;
+      }
+  regrown (next {rs = rs} t cap₀ u (records.Event e) s h) b =
+      let T = worked rs in
+      let d = decisionOf T e in
+      regrown-event T e d cap₀ (taken-fine t .grown) refl (event-taken cap₀ T e h) b (regrown t (before-event T F e d b))
+  regrown (next {rs = rs} t cap₀ u (records.Signature g) s h) b =
+      let r = regrown t (before-signed (worked rs) F g (signature-taken (worked rs) g h) b) in
+      record {
+        by = r .by;
+        items = r .items;
+        entities = r .entities;
+        sorts = r .sorts;
+        versions = r .versions;
+        edges = r .edges;
+        accepted = r .accepted;
+        last = r .last;
+      }

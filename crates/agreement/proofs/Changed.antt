@@ -14,15 +14,17 @@ use Rattle.record.specs.declared.Event.{Event}
 use Rattle.record.specs.declared.Record.{Record}
 use Rattle.record.specs.declared.Record.the-variants as records
 use Rattle.rows.specs.Rows.{entityRow, recounted}
+use Rattle.record.specs.declared.Signature.{Signature}
 use Rattle.rules.specs.declared.Decision.{Decision}
 use Rattle.rules.specs.declared.Decision.the-variants.{Repeat, Widen, Renew}
 use Rattle.rules.specs.Trail.{Capacity, Trail, latestOf}
 use Rattle.rules.specs.Decide.{decisionOf}
-use Rattle.rules.specs.Record.{declared, happened, keptEdge, refusalOf, changeOf}
+use Rattle.rules.specs.Record.{declared, happened, keptEdge, refusalOf, changeOf, signed}
 use Rattle.rules.specs.PlainList.{put, changed}
+use Rattle.rules.specs.Sound.{signedSort}
 use Rattle.soundness.specs.Facts.{RowFacts}
 use Rattle.soundness.specs.Taken.{RoomLeft, EventTaken}
-use Rattle.soundness.proofs.Taken.{event-taken}
+use Rattle.soundness.proofs.Taken.{event-taken, signature-taken}
 use Rattle.closure.specs.Same.{SameRows}
 use Rattle.agreement.proofs.Judged.{latest-same, sort-same, decision-same}
 
@@ -48,6 +50,16 @@ module _ (T : Trail) (E : ℕ → EntityRow) (V′ : ℕ → VersionRow) (D : �
       edges = refl;
       entity-rows = λ k l. put-alike (T .entity) E (T .counts .entities) _ _ k refl (λ n. s .entity-rows k (omega arith));
       version-rows = λ k l. put-alike (T .version) V′ (T .counts .versions) _ _ k refl (λ n. s .version-rows k (omega arith));
+      edge-rows = s .edge-rows;
+    }
+
+    signed-same : (g : Signature) → g .entity .0 < T .counts .entities → SameRows (changed T (signed T g)) (changed other (signed other g))
+    signed-same g i = record {
+      entities = refl;
+      versions = refl;
+      edges = refl;
+      entity-rows = λ k l. put-alike (T .entity) E (g .entity .0) _ _ k (ap (entityRow signedSort) (latest-same refl s f (g .entity .0) i)) (λ n. s .entity-rows k l);
+      version-rows = s .version-rows;
       edge-rows = s .edge-rows;
     }
 
@@ -136,6 +148,7 @@ module _ (T : Trail) (f : RowFacts T) (cap : Capacity) where
         let p = event-taken cap T e h in
         subst (λ (d : Decision). Alike (changed T (happened T e (decisionOf T e))) (changed U (happened U e d))) (decision-same refl s f e (p .source-in) (p .target-in))
         (happened-alike e (decisionOf T e) p)
+    other-alike (records.Signature g) h = record { counts = refl; rows = signed-same T E V′ D s f g (signature-taken T g h .entity-in) }
 
   pub changed-alike : (T′ : Trail) → Alike T T′ → (r : Record) → refusalOf cap T r ≡ Passed → After r T′
   changed-alike T′ a r h =

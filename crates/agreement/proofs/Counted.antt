@@ -71,6 +71,7 @@ unfolding standsFor changeOf
 worked-stands [] = record { count-is = λ k l. absurd (omega arith); last-is = λ k l. absurd (omega arith); past = λ k l. refl }
 worked-stands (records.Declaration d ∷ rs) = worked-stands rs
 worked-stands (records.Event e ∷ rs) = event-stands (worked rs) (standsFor rs) (worked-stands rs) e (decisionOf (worked rs) e) refl
+worked-stands (records.Signature g ∷ rs) = worked-stands rs
 
 -- Where every event is kept
 
@@ -103,3 +104,4 @@ unfolding changeOf
 worked-own [] a = λ k l. absurd (omega arith)
 worked-own (records.Declaration d ∷ rs) a = worked-own rs a
 worked-own (records.Event e ∷ rs) a = event-own (worked rs) e (decisionOf (worked rs) e) (itemsOf rs) (worked-own rs) a
+worked-own (records.Signature g ∷ rs) a = worked-own rs a

@@ -32,6 +32,8 @@ use Rattle.agreement.proofs.Matching.{matches, lent-alike, lent-rows, l
 use Rattle.agreement.proofs.Held.{known}
 use Rattle.agreement.proofs.Left.{left-by}
 use Rattle.agreement.proofs.Counted.{worked-stands}
+use Rattle.agreement.proofs.Signed.{taken-last, signed-held, no-more}
+use Rattle.agreement.proofs.Untouched.{untouched}
 
 -- Each event of the plain list counts as accepted
 
@@ -46,6 +48,7 @@ unfolding changeOf
 accepted-count [] = refl
 accepted-count (records.Declaration d ∷ rs) = accepted-count rs
 accepted-count (records.Event e ∷ rs) = accepted-event (worked rs) e (itemsOf rs) (accepted-count rs) (decisionOf (worked rs) e)
+accepted-count (records.Signature g ∷ rs) = accepted-count rs
 
 held-holds : (cs : List Call) → AllLent cs → (t : Tables) → Lent (heldAfter cs) t → Holds (plainAfter cs) (heldAfter cs .counts) t
 held-holds cs a t l =
@@ -67,6 +70,10 @@ held-holds cs a t l =
       counts-are = λ k i. ap (λ (r : EdgeRow). r .count) (row k i) ∙ w .count-is k (inside k i);
       lasts-are = λ k i. ap (λ (r : EdgeRow). r .last) (row k i) ∙ w .last-is k (inside k i);
       sum-is = lent-rows _ _ m t l .sum ∙ ap (λ (c : Counts). c .accepted) (sym (s .counts)) ∙ accepted-count (plainAfter cs);
+      last-is = ap (λ (c : Counts). c .last) (sym (s .counts)) ∙ taken-last (m .taken);
+      signatures = λ x. signed-held (m .taken) (s .rows) x;
+      no-more = no-more (m .taken);
+      untouched = untouched (plainAfter cs);
       versions = k .faithful .versions;
     }
 

@@ -14,16 +14,17 @@ use Rattle.rows.specs.declared.VersionRow.{VersionRow}
 use Rattle.rows.specs.declared.EdgeRow.{EdgeRow}
 use Rattle.record.specs.declared.Declaration.{Declaration}
 use Rattle.record.specs.declared.Event.{Event}
+use Rattle.record.specs.declared.Signature.{Signature}
 use Rattle.rules.specs.declared.Found.{Found}
 use Rattle.rules.specs.declared.Found.the-variants.{At, Nothing}
 use Rattle.rules.specs.declared.Decision.{Decision}
 use Rattle.rules.specs.declared.Decision.the-variants.{Repeat, Widen}
 use Rattle.rules.specs.Trail.{Capacity, Trail, none, latestOf}
 use Rattle.rules.specs.Decide.{leaves, repeatOf, hasOutgoing, decide, decisionOf}
-use Rattle.rules.specs.Record.{declared, repeated, widened, renewed}
+use Rattle.rules.specs.Record.{declared, repeated, widened, renewed, signed}
 use Rattle.rules.specs.PlainList.{changed}
 use Rattle.rules.specs.Forward.{ForwardMarks}
-use Rattle.soundness.specs.Taken.{EventTaken}
+use Rattle.soundness.specs.Taken.{EventTaken, SignatureTaken}
 use Rattle.soundness.proofs.Hit.{decision-found}
 use Rattle.soundness.proofs.Put.{put-same, put-other}
 use Rattle.soundness.proofs.Extends.{Extends}
@@ -32,6 +33,7 @@ use Rattle.soundness.proofs.Repeated.{repeated-extends}
 use Rattle.soundness.proofs.Widened.{widened-extends}
 use Rattle.soundness.proofs.Renewed as by-renewal
 use Rattle.causality.specs.Working.{Leads, Unused, Keeps, Same, Declares, AddsEdge}
+use Rattle.soundness.proofs.Signed.{latest-same, signed-extends}
 
 -- What the searches find
 
@@ -88,6 +90,9 @@ declares T d = record {
   previous-new = ap (λ (r : VersionRow). r .previous .0) (by-declaration.new-version T d);
   old = keeps (by-declaration.declared-extends T d);
 }
+
+pub signs : (T : Trail) (g : Signature) → SignatureTaken T g → Same T (changed T (signed T g))
+signs T g p = record { ne-is = refl; nv-is = refl; nd-is = refl; latest-old = λ y l. latest-same T g p y; old = keeps (signed-extends T g p) }
 
 pub repeats : (cap : Capacity) (T : Trail) (e : Event) (k : EdgeNo) → EventTaken cap T e (Repeat k) → Same T (changed T (repeated T e (k .0)))
 repeats cap T e k p = record { ne-is = refl; nv-is = refl; nd-is = refl; latest-old = λ y l. refl; old = keeps (repeated-extends cap T e k p) }

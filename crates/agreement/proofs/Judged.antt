@@ -14,10 +14,11 @@ use Rattle.rows.specs.declared.EdgeRow.{EdgeRow}
 use Rattle.record.specs.declared.Event.{Event}
 use Rattle.record.specs.declared.Record.{Record}
 use Rattle.record.specs.declared.Record.the-variants as records
+use Rattle.record.specs.declared.Signature.{Signature}
 use Rattle.rules.specs.declared.Found.the-variants.{Nothing, At}
 use Rattle.rules.specs.Trail.{Capacity, Trail, latestOf}
 use Rattle.rules.specs.Decide.{goesTo, newestTo, leaves, folds, repeatOf, hasOutgoing, decide, decisionOf, edgeNo}
-use Rattle.rules.specs.Record.{declarationRefusals, earlyRefusals, roomRefusals, eventRefusals, refusalOf, toHit, triedFor}
+use Rattle.rules.specs.Record.{declarationRefusals, earlyRefusals, roomRefusals, eventRefusals, refusalOf, toHit, triedFor, signatureRefusals}
 use Rattle.soundness.specs.Facts.{RowFacts}
 use Rattle.soundness.proofs.Taken.{event-taken}
 use Rattle.closure.specs.Same.{SameRows}
@@ -85,12 +86,21 @@ module _ {T T′ : Trail} (q : T .counts ≡ T′ .counts) (s : SameRows T T′)
   undeclared-same cap e false b true z = rw (b, z, ← q, b, z)
   undeclared-same cap e false b false z = refused-same e (leb-false _ _ b) (leb-false _ _ z) cap
 
+  -- so it is with a signature
+  signature-same : (g : Signature) → (b : Bool) → leb (T .counts .entities) (g .entity .0) ≡ b
+      → firstOf (signatureRefusals (T .counts) (T .entity) g) ≡ firstOf (signatureRefusals (T′ .counts) (T′ .entity) g)
+  unfolding signatureRefusals firstOf
+  signature-same g true b = rw (b, ← q, b)
+  signature-same g false b = rw (sort-same (g .entity .0) (leb-false _ _ b), q)
+
   pub refusal-same : (cap : Capacity) (r : Record) → refusalOf cap T r ≡ refusalOf cap T′ r
   unfolding refusalOf
   refusal-same cap (records.Declaration d) = ap (λ (c : Counts). firstOf (declarationRefusals cap c d)) q
   refusal-same cap (records.Event e) = undeclared-same cap e _ refl _ refl
+  refusal-same cap (records.Signature g) = signature-same g _ refl
 
   pub tried-same : (cap : Capacity) (r : Record) → refusalOf cap T r ≡ Passed → triedFor T r ≡ triedFor T′ r
   unfolding refusalOf triedFor
   tried-same cap (records.Declaration d) h = refl
   tried-same cap (records.Event e) h = let z = event-taken cap T e h in tried-event e (z .source-in) (z .target-in)
+  tried-same cap (records.Signature g) h = refl

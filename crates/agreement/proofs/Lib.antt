@@ -11,16 +11,20 @@ pub mod Left
 pub mod TraceAnswers
 pub mod Demand3
 pub mod OneEntity
--- What the edges stand for, and demand 2
+-- What the edges stand for, the signatures, and demand 2
 pub mod KeptOnly
 pub mod Counted
+pub mod Signed
+pub mod Untouched
 pub mod Demand2
 -- The kept log taken in again
 pub mod Recent
 pub mod Decided
 pub mod Passing
 pub mod Relogged
+pub mod Before
 pub mod Again
+pub mod SignedAgain
 pub mod TracesAgain
 pub mod SameCalls
 pub mod TakenAll
@@ -28,9 +32,10 @@ pub mod Log
 pub mod RoundTrip
 -- Wrong answers contradict the claims
 pub mod Determined
-pub mod WorkedAnswers
-pub mod NoEdge
 pub mod WorkedEvents
+pub mod WorkedAnswers
+pub mod SignedAnswers
+pub mod NoEdge
 pub mod LongerPaths
 pub mod OwnIntakes
 pub mod GainDropped

@@ -3,15 +3,16 @@ use Prim.Native.Nat.{ℕ, zero, suc, _<_}
 use native.Mathlib.Omega.{arith}
 use native.Mathlib.Decide.{ℕ-discrete}
 use mathlib.Core.Path.{_≡_, refl, sym, _∙_, ap}
-use mathlib.Core.List.{List, [], _∷_, _++_, append-nil, append-assoc, reverse, reverseAux, reverseAux-append}
+use mathlib.Core.List.{List, [], _∷_, _++_, append-assoc, reverse, reverseAux, reverseAux-append, reverseAux-eq}
 use lib.ListN.{length}
 use Rattle.record.specs.declared.Event.{Event}
 use Rattle.record.specs.declared.Record.{Record}
 use Rattle.rules.specs.Trail.{Trail}
 use Rattle.rules.specs.KeptLog.{declarationRecord, eventRecord}
 use Rattle.causality.specs.Statements.{Logged}
-use Rattle.kept_log.specs.LogRecords.{recordsBelow, logRecords}
+use Rattle.kept_log.specs.LogRecords.{recordsBelow, logRecords, signedRecords}
 use Rattle.agreement.proofs.Relogged.{descending, relogged}
+use Rattle.agreement.proofs.SignedAgain.{withSignatures, withSignatures-reverse}
 
 -- two trails whose edges are the same events
 pub events-same : (T U : Trail) (ks : List Event) → Logged T ks → Logged U ks → (k : ℕ) → k < length ks → eventRecord U k ≡ eventRecord T k
@@ -31,11 +32,14 @@ relogged-is : (T : Trail) (ks : List Event) → Logged T ks → relogged T ks �
 relogged-is T [] a = refl
 relogged-is T (e ∷ ks) a = λ j. sym (a .0) j ∷ relogged-is T ks (a .2) j
 
-pub logRecords-reverse : (T : Trail) (ks : List Event) → T .counts .edges ≡ length ks → Logged T ks → logRecords T ≡ reverse (relogged T ks)
+pub logRecords-reverse : (T : Trail) (ks : List Event) → T .counts .edges ≡ length ks → Logged T ks → logRecords T ≡ reverse (withSignatures (T .entity) (T .counts .entities) (relogged T ks))
 unfolding logRecords
 logRecords-reverse T ks q a =
     let D = descending (declarationRecord T) (T .counts .entities) in
     let E = descending (eventRecord T) (length ks) in
-    let e : recordsBelow (eventRecord T) (T .counts .edges) ≡ reverseAux E []
-    = ap (recordsBelow (eventRecord T)) q ∙ sym (append-nil (recordsBelow (eventRecord T) (length ks))) ∙ recordsBelow-reverse (eventRecord T) (length ks) [] in
-    recordsBelow-reverse (declarationRecord T) (T .counts .entities) _ ∙ ap (reverseAux D) e ∙ sym (reverseAux-append E D []) ∙ ap reverse (sym (relogged-is T ks a))
+    let S = signedRecords (T .entity) (T .counts .entities) in
+    let e : recordsBelow (eventRecord T) (T .counts .edges) ++ S ≡ reverseAux E S
+    = ap (λ (n : ℕ). recordsBelow (eventRecord T) n ++ S) q ∙ recordsBelow-reverse (eventRecord T) (length ks) S in
+    recordsBelow-reverse (declarationRecord T) (T .counts .entities) _ ∙ ap (reverseAux D) e ∙ sym (reverseAux-append E D S)
+    ∙ ap (λ (z : List Record). reverseAux z S) (sym (relogged-is T ks a)) ∙ reverseAux-eq (relogged T ks) S
+    ∙ sym (withSignatures-reverse (T .entity) (T .counts .entities) (relogged T ks))

@@ -9,14 +9,15 @@ use Rattle.refusals.proofs.Checks.{not-false-of, AllFalse, all-false-passed}
 use Rattle.rows.specs.declared.Counts.{Counts}
 use Rattle.record.specs.declared.Declaration.{Declaration}
 use Rattle.record.specs.declared.Event.{Event}
+use Rattle.record.specs.declared.Signature.{Signature}
 use Rattle.rules.specs.declared.Decision.{Decision}
 use Rattle.rules.specs.declared.Decision.the-variants.{Repeat, Widen, Renew}
 use Rattle.rules.specs.Trail.{Capacity, Trail}
 use Rattle.rules.specs.Sound.{mayFollow}
-use Rattle.rules.specs.Record.{declarationRefusals, earlyRefusals, roomRefusals, eventRefusals, happened}
+use Rattle.rules.specs.Record.{declarationRefusals, earlyRefusals, roomRefusals, eventRefusals, happened, signatureRefusals}
 use Rattle.rules.specs.PlainList.{changed}
 use Rattle.rules.specs.History.{kept, itemOf}
-use Rattle.soundness.specs.Taken.{DeclarationTaken, RoomLeft, EventTaken}
+use Rattle.soundness.specs.Taken.{DeclarationTaken, RoomLeft, EventTaken, SignatureTaken}
 use Rattle.soundness.proofs.Put.{put-keeps}
 
 pub declaration-passes : (cap : Capacity) (c : Counts) (d : Declaration) → DeclarationTaken cap c d → firstOf (declarationRefusals cap c d) ≡ Passed
@@ -44,14 +45,21 @@ event-passes cap T e d p =
             (
               not-false-of _ (p .target-fits),
               (
-                not-false-of _ (lt-ltb _ _ (p .later)),
-                (lt-leb _ _ (p .accepted-left), room-passes cap (T .counts) d (p .room-left)),
+                p .unsigned,
+                (
+                  not-false-of _ (lt-ltb _ _ (p .later)),
+                  (lt-leb _ _ (p .accepted-left), room-passes cap (T .counts) d (p .room-left)),
+                ),
               ),
             ),
           ),
         ),
       ),
     )
+
+pub signature-passes : (T : Trail) (g : Signature) → SignatureTaken T g → firstOf (signatureRefusals (T .counts) (T .entity) g) ≡ Passed
+unfolding signatureRefusals
+signature-passes T g p = all-false-passed _ (lt-leb _ _ (p .entity-in), (p .object, (p .unsigned, tt)))
 
 -- T′ is T with an event kept, and n versions more
 pub record KeptStep (T T′ : Trail) (e : Event) (n : ℕ) : Type 0 where

@@ -2,7 +2,7 @@
 use Prim.Native.Nat.{_<_}
 use native.Mathlib.Omega.{arith}
 use mathlib.Core.Path.{_≡_, refl, sym, subst}
-use mathlib.Core.List.{List, _∷_}
+use mathlib.Core.List.{List, _∷_, []}
 use Rattle.refusals.specs.declared.Checked.the-variants.{Passed}
 use Rattle.record.specs.declared.Declaration.{Declaration}
 use Rattle.record.specs.declared.Event.{Event}
@@ -14,10 +14,11 @@ use Rattle.rules.specs.Trail.{Capacity, Trail, none, latestOf}
 use Rattle.rules.specs.Decide.{decisionOf}
 use Rattle.rules.specs.Record.{happened, refusalOf, changeOf}
 use Rattle.rules.specs.PlainList.{changed, worked, itemsOf}
-use Rattle.rules.specs.History.{Item, itemOf, accepted}
+use Rattle.rules.specs.History.{Item, itemOf, accepted, kept, dropped}
+use Rattle.rules.specs.StandsFor.{lastTime}
 use Rattle.soundness.specs.Facts.{CountFacts, RowFacts}
 use Rattle.soundness.specs.Taken.{EventTaken, SortFits}
-use Rattle.soundness.proofs.Taken.{event-taken}
+use Rattle.soundness.proofs.Taken.{event-taken, signature-taken}
 use Rattle.soundness.proofs.Step.{step-rows, step-counts, fresh-rows, fresh-counts}
 use Rattle.soundness.proofs.TableStep.{counts-changed}
 use Rattle.causality.specs.Working.{lastOf, Fit, Grown}
@@ -25,7 +26,7 @@ use Rattle.causality.specs.Order.{Falling}
 use Rattle.causality.proofs.Same.{grown-same}
 use Rattle.causality.proofs.Strict.{falling-next}
 use Rattle.agreement.specs.Taken.{greatest, Within, Taken, begun, next}
-use Rattle.agreement.proofs.Growing.{declares, repeats, widens, renews, repeat-may-drop}
+use Rattle.agreement.proofs.Growing.{declares, repeats, widens, renews, repeat-may-drop, signs}
 
 pub record Fine (T : Trail) (hs : List Item) : Type 0 where
   pub rows : RowFacts T
@@ -90,7 +91,19 @@ fine-next cap w rs f (records.Event e) s h =
       last = last-event cap w T (itemsOf rs) f e d;
       falling = falling-event cap w T (itemsOf rs) f e d p;
     }
+fine-next cap w rs f (records.Signature g) s h = record {
+  rows = step-rows cap (worked rs) (records.Signature g) s h (f .rows);
+  counted = counts-next cap w (worked rs) (f .counted) (records.Signature g) h;
+  grown = grown-same (f .grown) (signs (worked rs) g (signature-taken (worked rs) g h));
+  last = f .last;
+  falling = f .falling;
+}
 
 pub taken-fine : {rs : List Record} → Taken rs → Fine (worked rs) (itemsOf rs)
 taken-fine begun = record { rows = fresh-rows _ refl; counted = fresh-counts greatest; grown = Grown.begun refl refl refl; last = refl; falling = tt }
 taken-fine (next {rs = rs} t cap w r s h) = fine-next cap w rs (taken-fine t) r s h
+
+pub lastOf-accepted : (hs : List Item) → lastOf hs ≡ lastTime (accepted hs)
+lastOf-accepted [] = refl
+lastOf-accepted (kept e ∷ hs) = refl
+lastOf-accepted (dropped e ∷ hs) = refl

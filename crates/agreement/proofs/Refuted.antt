@@ -26,14 +26,18 @@ use Rattle.rules.specs.CallCases.{execves}
 use Rattle.rules.proofs.Computed.{computed}
 use Rattle.rules.proofs.MemberCases.{memberCases}
 use Rattle.rules.proofs.Members.{earliest-one}
+use Rattle.rules.specs.Batch.{Batched}
+use Rattle.rules.specs.Order.{event}
+use Rattle.rules.proofs.SignedCases.{signedCases}
 use Rattle.closure.proofs.Checked.{undeclared-refused}
 use Rattle.agreement.specs.Demand2.{Answered}
 use Rattle.agreement.specs.Refuted.{workedCalls, workedPlain, NoAnswer, Refuted}
-use Rattle.agreement.proofs.WorkedAnswers.{rows, entities-are, versions-are, edges-are, accepted-are, last-is, stager-row, report-version, edge-at-1, edge-at-6, answer-is, p4-count, four, not-refused, log-not-refused, backward-is, forward-is}
+use Rattle.agreement.proofs.WorkedAnswers.{rows, entities-are, versions-are, edges-are, accepted-are, last-is, stager-row, report-version, edge-at-1, edge-at-6, answer-is, p4-count, four, unsigned-batch, not-refused, log-not-refused, backward-is, forward-is}
 use Rattle.agreement.proofs.NoEdge.{no-edge-traced}
 use Rattle.agreement.proofs.LongerPaths.{montage-back, study-forward, montage-forward}
 use Rattle.agreement.proofs.OwnIntakes.{subject-not-marked}
 use Rattle.agreement.proofs.GainDropped.{time-6-kept}
+use Rattle.agreement.proofs.SignedAnswers.{signed-counts, report-row, report-signed, last-time, study-row, some-signed, not-written, not-signed-again, signed-answer-is}
 
 -- the plain list refuses no trace with 16
 not-16 : (rs : List Record) (xs work marks : List ℕ) → numberOf (firstOf (traceRefusals (worked rs .counts) xs work marks)) ≡ refusalNo Unsound → ⊥
@@ -159,8 +163,24 @@ refuted = record {
   log-taken-free = λ b w a.
       let x = ap (λ (z : Counts). z .entities) (rows .p1-counts) in
       let y = ap (λ (z : Counts). z .edges) (rows .p1-counts) in
-      w (omega (arith, a .taken));
+      w (omega (arith, a .taken, unsigned-batch));
   log-counts-kept = λ b w a. w (a .counts-one 0 (omega (arith, ap (λ (z : Counts). z .edges) (rows .p1-counts))));
   log-lasts-kept = λ b w a. w (a .lasts-own 0 (omega (arith, ap (λ (z : Counts). z .edges) (rows .p1-counts))));
   log-other-trace = λ b w a. w (ap (λ (z : BackwardAnswer). z .count) (a .calls .backward-answer 2 6 (replicate 6 9) (replicate 5 9)) ∙ p4-count);
+  signature-lost = λ c t w h. omega (arith, report-signed h);
+  other-signed = λ c t w h. omega (arith, ap (λ (r : EntityRow). r .sort) (study-row h));
+  latest-lost = λ c t w h. w (ap (λ (r : EntityRow). r .latest .0) (report-row h));
+  signature-accepted = λ c t w h. omega (arith, ap (λ (z : Counts). z .accepted) (signed-counts h));
+  last-moved = λ c t w h. w (last-time h);
+  written-after = not-written;
+  signed-twice = not-signed-again;
+  signature-refused = λ a w g. w (ap (λ (z : BatchAnswer). z .refusal) (signed-answer-is [] a g ∙ signedCases .signed-answer));
+  signature-not-taken = λ a w g. omega (arith, ap (λ (z : BatchAnswer). z .taken) (signed-answer-is [] a g ∙ signedCases .signed-answer));
+  write-not-refused = λ a w g.
+      w (ap (λ (z : BatchAnswer). z .refusal) (signed-answer-is (event 2 1 2 8) a g ∙ ap (λ (b : Batched). b .answer) (signedCases .repeat-left)));
+  log-signature-lost = λ c t h b w a.
+      let e = ap (λ (z : Counts). z .entities) (signed-counts h) in
+      omega (arith, ap (λ (r : EntityRow). r .sort) (report-row h), a .same .sorts 2 (omega arith));
+  log-signature-not-taken = λ c t h b w a.
+      omega (arith, a .taken, some-signed h, ap (λ (z : Counts). z .entities) (signed-counts h), ap (λ (z : Counts). z .edges) (signed-counts h));
 }

@@ -12,12 +12,13 @@ use Rattle.record.specs.declared.Record.the-variants as records
 use Rattle.rules.specs.Trail.{Capacity, Trail}
 use Rattle.rules.specs.Record.{refusalOf, changeOf}
 use Rattle.rules.specs.PlainList.{worked, itemsOf}
-use Rattle.rules.specs.KeptLog.{declarationRecord}
+use Rattle.rules.specs.KeptLog.{declarationRecord, declaredSort}
 use Rattle.rules.specs.Calls.{EnoughRows}
 use Rattle.soundness.specs.Taken.{SortFits}
 use Rattle.soundness.proofs.Put.{put-same, put-other}
 use Rattle.agreement.specs.Taken.{Within, Taken, begun, next}
 use Rattle.agreement.proofs.Passing.{declaration-passes}
+use Rattle.soundness.proofs.Sorts.{declared-low}
 
 -- the records of f below n, the last first
 abbrev pub descending : (ℕ → Record) → ℕ → List Record
@@ -47,14 +48,14 @@ pub record Declared (cap : Capacity) (F : Trail) (n : ℕ) (rs : List Record) : 
   pub edges : worked rs .counts .edges ≡ 0
   pub accepted : worked rs .counts .accepted ≡ 0
   pub last : worked rs .counts .last ≡ 0
-  pub sorts : (x : ℕ) → x < n → worked rs .entity x .sort ≡ F .entity x .sort
+  pub sorts : (x : ℕ) → x < n → worked rs .entity x .sort ≡ declaredSort (F .entity x .sort)
 
-module _ (F : Trail) (cap : Capacity) (room : EnoughRows cap (F .counts)) (low : (x : ℕ) → x < F .counts .entities → F .entity x .sort ≤ 1)
+module _ (F : Trail) (cap : Capacity) (room : EnoughRows cap (F .counts))
     (few : F .counts .entities ≤ F .counts .versions) where
   declares-next : (n : ℕ) (rs : List Record) → n < F .counts .entities → Declared cap F n rs → Declared cap F (suc n) (declarationRecord F n ∷ rs)
   unfolding refusalOf changeOf
   declares-next n rs l o = record {
-    by = ((low n l, passes), o .by);
+    by = ((declared-low (F .entity n .sort), passes), o .by);
     items = o .items;
     entities = omega (arith, o .entities);
     versions = omega (arith, o .versions);
@@ -71,10 +72,10 @@ module _ (F : Trail) (cap : Capacity) (room : EnoughRows cap (F .counts)) (low :
         versions-left = omega (arith, o .versions, room .versions);
       })
 
-      go : (x : ℕ) → x < suc n → Dec (x ≡ n) → worked (declarationRecord F n ∷ rs) .entity x .sort ≡ F .entity x .sort
+      go : (x : ℕ) → x < suc n → Dec (x ≡ n) → worked (declarationRecord F n ∷ rs) .entity x .sort ≡ declaredSort (F .entity x .sort)
       go x h (yes q) =
           ap (λ (y : ℕ). worked (declarationRecord F n ∷ rs) .entity y .sort) (q ∙ sym (o .entities))
-          ∙ ap (λ (r : EntityRow). r .sort) (put-same (worked rs .entity) _ _) ∙ ap (λ (y : ℕ). F .entity y .sort) (sym q)
+          ∙ ap (λ (r : EntityRow). r .sort) (put-same (worked rs .entity) _ _) ∙ ap (λ (y : ℕ). declaredSort (F .entity y .sort)) (sym q)
       go x h (no q) =
           ap (λ (r : EntityRow). r .sort) (put-other (worked rs .entity) _ _ x (λ z. q (z ∙ o .entities))) ∙ o .sorts x (omega arith)
 

@@ -17,17 +17,15 @@ use Rattle.record.specs.declared.Event.{Event}
 use Rattle.record.specs.declared.Record.{Record}
 use Rattle.record.specs.Header.{headerChecks}
 use Rattle.rules.specs.Trail.{Tables, capacityOf, Trail, trailOf, freshCounts}
-use Rattle.rules.specs.Sound.{isSound}
+use Rattle.rules.specs.Sound.{isSound, isSubject}
 use Rattle.rules.specs.PlainList.{worked, itemsOf}
 use Rattle.rules.specs.History.{keptEvents}
 use Rattle.rules.specs.Batch.{ifRefused, contentsOf, batchOf}
 use Rattle.rules.specs.Marks.{overlaid}
-use Rattle.rules.specs.KeptLog.{KeptLog, logBytes, logChecks, keptLog, keptLogOf}
+use Rattle.rules.specs.KeptLog.{KeptLog, logBytes, logChecks, keptLog, keptLogOf, signedIn}
 use Rattle.rules.specs.Calls.{Call, Held, held, heldAfter, Lent, AllLent, EnoughRows, plainAfter}
 use Rattle.soundness.proofs.Facts.{sound-counts}
-use Rattle.soundness.proofs.Tests.{sort-low}
 use Rattle.causality.specs.Statements.{Logged}
-use Rattle.kept_log.specs.Written.{logLength}
 use Rattle.kept_log.specs.LogRecords.{logRecords, wholly}
 use Rattle.kept_log.proofs.LogRecords.{length-logRecords, length-logBytes}
 use Rattle.kept_log.proofs.ReadBack.{log-taken-header, log-taken-contents}
@@ -37,16 +35,27 @@ use Rattle.agreement.proofs.Held.{Known, known}
 use Rattle.agreement.proofs.Left.{own-lent, left-by}
 use Rattle.agreement.proofs.KeptOnly.{allKept, keptEvents-allKept}
 use Rattle.agreement.proofs.Counted.{AllKept, allKept-are, worked-own}
-use Rattle.agreement.proofs.Relogged.{relogged}
-use Rattle.agreement.proofs.Again.{Before, Regrown, regrown}
+use Rattle.agreement.proofs.Relogged.{relogged, TakenBy}
+use Rattle.agreement.proofs.Again.{Regrown, regrown}
+use Rattle.agreement.proofs.Before.{Before}
 use Rattle.agreement.proofs.TracesAgain.{backward-again, forward-again, intake-again}
 use Rattle.agreement.proofs.SameCalls.{SameTraces, same-calls}
 use Rattle.agreement.proofs.TakenAll.{batch-all, batch-refusal, batch-taken}
 use Rattle.agreement.proofs.Log.{events-same, logRecords-reverse}
+use Rattle.agreement.proofs.SignedAgain.{withSignatures, SignedAgain, sign-again}
+use Rattle.agreement.proofs.Changed.{Alike}
+use Rattle.soundness.proofs.Counted.{signed-same}
 
 -- The checks of a writer over sound tables: it is refused with 15, or passes
 abbrev short : Bool → Checked
 short b = cond b (Refused OutputShort) Passed
+
+-- trails with the same counts and sorts have logs of the same length
+length-alike : (T U : Trail) → U .counts ≡ T .counts → ((x : ℕ) → x < U .counts .entities → T .entity x .sort ≡ U .entity x .sort)
+    → length (logBytes T) ≡ length (logBytes U)
+length-alike T U q h =
+    let e = ap (λ (c : Counts). c .entities) q in
+    omega (arith, length-logBytes T, length-logBytes U, signed-same T U e h, e, ap (λ (c : Counts). c .edges) q)
 
 module _ (c : Counts) (t : Tables) (out : List ℕ) (s : isSound (capacityOf t) (trailOf c t) ≡ true) where
   abbrev answered : Bool → KeptLog
@@ -59,11 +68,11 @@ module _ (c : Counts) (t : Tables) (out : List ℕ) (s : isSound (capacityOf t) 
   answered-number false = refl
 
   -- the log is as long as the plain list says
-  log-refusal : (rs : List Record) → c ≡ worked rs .counts
+  log-refusal : (rs : List Record) → Alike (worked rs) (trailOf c t)
       → keptLogOf c t out .answer .refusal ≡ cond (ltb (length out) (length (logBytes (worked rs)))) (refusalNo OutputShort) 0
   unfolding keptLogOf logChecks firstOf
-  log-refusal rs same =
-      let e : length (logBytes (trailOf c t)) ≡ length (logBytes (worked rs)) = length-logBytes (trailOf c t) ∙ ap logLength same ∙ sym (length-logBytes (worked rs)) in
+  log-refusal rs a =
+      let e = length-alike (trailOf c t) (worked rs) (a .counts) (λ x l. ap (λ (r : EntityRow). r .sort) (sym (a .rows .entity-rows x l))) in
       rw s (answered-number (ltb (length out) (length (logBytes (trailOf c t)))) ∙ ap (λ (n : ℕ). cond (ltb (length out) n) (refusalNo OutputShort) 0) e)
 
   log-passed : keptLogOf c t out .answer .refusal ≡ 0 → firstOf (logChecks c t out) ≡ Passed
@@ -84,7 +93,7 @@ module _ (h : Held) (rs : List Record) (m : Matches h rs) (t : Tables) (l : Lent
   ks = keptEvents (itemsOf rs)
 
   abbrev R : List Record
-  R = relogged T ks
+  R = withSignatures (T .entity) (T .counts .entities) (relogged T ks)
 
   first : Known T (worked rs .counts .entities) (itemsOf rs)
   first = known h rs m t l
@@ -96,11 +105,39 @@ module _ (h : Held) (rs : List Record) (m : Matches h rs) (t : Tables) (l : Lent
         entities = omega (arith, a .entities);
         versions = omega (arith, a .entities, a .versions);
         edges = omega (arith, a .edges);
-        sorts = λ x i. ap (λ (r : EntityRow). r .sort) (a .entity-rows x i);
+        subjects = λ x i. ap (λ (r : EntityRow). isSubject (r .sort)) (a .entity-rows x i);
       }
 
-  again : Regrown (capacityOf lent) T (worked rs) ks
-  again = regrown T (capacityOf lent) (capacity-within lent) room (λ x i. sort-low _ (lent-rows h rs m t l .entity x i .sort-is)) (m .taken) before
+  -- declarations and events, then signatures
+  events-again : Regrown (capacityOf lent) T (worked rs) ks
+  events-again = regrown T (capacityOf lent) (capacity-within lent) room (m .taken) before
+
+  signed-again : SignedAgain (capacityOf lent) (T .entity) (T .counts .entities) (relogged T ks) R
+  signed-again =
+      let e = events-again .entities in
+      sign-again (capacityOf lent) (T .entity) (relogged T ks) (events-again .by) (λ x i. lent-rows h rs m t l .entity x (omega arith) .sort-in)
+      (λ x i. events-again .sorts x (omega arith)) (T .counts .entities) (omega arith)
+
+  record Again : Type 0 where
+    by : TakenBy (capacityOf lent) R
+    items : itemsOf R ≡ allKept ks
+    entities : worked R .counts .entities ≡ T .counts .entities
+    sorts : (x : ℕ) → x < T .counts .entities → worked R .entity x .sort ≡ T .entity x .sort
+    versions : worked R .counts .versions + worked rs .counts .entities ≡ worked rs .counts .versions + T .counts .entities
+    edges : worked R .counts .edges ≡ worked rs .counts .edges
+
+  again : Again
+  again =
+      let a = events-again in
+      let b = signed-again in
+      record {
+        by = b .by;
+        items = b .items ∙ a .items;
+        entities = ap (λ (c : Counts). c .entities) (b .counts) ∙ a .entities;
+        sorts = b .done;
+        versions = omega (arith, ap (λ (c : Counts). c .versions) (b .counts), a .versions);
+        edges = ap (λ (c : Counts). c .edges) (b .counts) ∙ a .edges;
+      }
 
   module _ (c : Counts) (u : Tables) (y : Ready (capacityOf lent) c u R) where
     abbrev U : Trail
@@ -149,7 +186,7 @@ module _ (h : Held) (rs : List Record) (m : Matches h rs) (t : Tables) (l : Lent
     taken-again =
         let q = contents ∙ ap wholly turned in
         let y = batch-all lent file header R (again .by) q in
-        let n : length (reverse R) ≡ T .counts .entities + T .counts .edges = ap length (sym turned) ∙ length-logRecords T in
+        let n : length (reverse R) ≡ T .counts .entities + T .counts .edges + signedIn T = ap length (sym turned) ∙ length-logRecords T in
         record {
           refusal = batch-refusal lent file header R (again .by) q;
           taken = batch-taken lent file header R (again .by) q ∙ n;
@@ -166,7 +203,7 @@ held-trip cs a t l out =
     let c = heldAfter cs .counts in
     let s = lent-sound _ _ m t l in
     record {
-      refusal = log-refusal c t out s (plainAfter cs) (sym (m .alike .counts));
+      refusal = log-refusal c t out s (plainAfter cs) (lent-alike _ _ m t l);
       again = λ q small lent room.
           let p = log-passed c t out s q in
           taken-again (heldAfter cs) (plainAfter cs) m t l lent room _ (log-taken-header c t out p) (log-taken-contents c t out p small);

@@ -1,10 +1,10 @@
 -- Sound trails with the same entities, kept events and traces: traces are refused alike and answer alike, and the kept logs are equal.
 use Prim.Native.Nat.{ℕ, _<_}
 use mathlib.Core.Path.{_≡_, refl, sym, _∙_, ap}
-use mathlib.Core.Bool.{true, not}
+use mathlib.Core.Bool.{true, not, cond}
 use mathlib.Core.List.{List, [], _∷_, _++_}
 use lib.ListN.{length}
-use lib.Dec.{ltb}
+use lib.Dec.{ltb, eqb}
 use Rattle.refusals.specs.declared.Refusal.the-variants.{Unsound, BufferShort, OutputShort}
 use Rattle.refusals.specs.declared.Checked.{Checked}
 use Rattle.refusals.specs.declared.Checked.the-variants.{Passed, Refused}
@@ -13,17 +13,19 @@ use Rattle.rows.specs.declared.Counts.{Counts}
 use Rattle.rows.specs.Rows.{entityNo}
 use Rattle.record.specs.declared.Record.the-variants as records
 use Rattle.record.specs.Encode.{headerBytes}
+use Rattle.record.specs.Layout.{signingVersion}
 use Rattle.rules.specs.Trail.{Tables, capacityOf, Trail, trailOf}
 use Rattle.rules.specs.Sound.{isSound}
 use Rattle.rules.specs.Batch.{ifRefused}
 use Rattle.rules.specs.Marks.{ones, overlaid}
 use Rattle.rules.specs.Backward.{backwardEntities, undeclaredChecks, traceChecks, BackwardTrace, backwardOf}
 use Rattle.rules.specs.Forward.{forwardEntities, forwardIntake, ForwardTrace, forwardOf}
-use Rattle.rules.specs.KeptLog.{declarationRecord, eventRecord, encodedBelow, logBytes, logChecks, keptLog, keptLogOf}
+use Rattle.rules.specs.KeptLog.{declarationRecord, eventRecord, encodedBelow, logBytes, logChecks, keptLog, keptLogOf, declaredSort, signaturesBelow, logVersion}
 use Rattle.closure.specs.Arcs.{AllBelow}
 use Rattle.closure.proofs.Checked.{passed-entities, passed-entity}
-use Rattle.kept_log.proofs.Same.{encodedBelow-same}
+use Rattle.kept_log.proofs.Same.{encodedBelow-same, signaturesBelow-same}
 use Rattle.agreement.specs.RoundTrip.{SameTrail, SameCalls}
+use Rattle.soundness.proofs.Counted.{signed-same}
 
 -- what is read of a call that goes on or stops
 ifRefused-same : {A B : Type 0} (f : A → B) (x : Checked) (stop on on′ : A) → (x ≡ Passed → f on ≡ f on′) → f (ifRefused x stop on) ≡ f (ifRefused x stop on′)
@@ -85,14 +87,21 @@ module _ (c : Counts) (t : Tables) (d : Counts) (u : Tables) (s : SameTraces (tr
   -- The kept log
 
   declaration-same : (x : ℕ) → x < c .entities → declarationRecord (trailOf d u) x ≡ declarationRecord (trailOf c t) x
-  declaration-same x l = λ j. records.Declaration (record { sort = s .trail .sorts x l j; entity = entityNo x })
+  declaration-same x l = λ j. records.Declaration (record { sort = declaredSort (s .trail .sorts x l j); entity = entityNo x })
+
+  version-same : logVersion (trailOf d u) ≡ logVersion (trailOf c t)
+  unfolding logVersion
+  version-same =
+      ap (λ (k : ℕ). cond (eqb k 0) 1 signingVersion) (signed-same (trailOf d u) (trailOf c t) (sym (s .trail .entities)) (s .trail .sorts))
 
   logBytes-same : logBytes (trailOf d u) ≡ logBytes (trailOf c t)
   unfolding logBytes
   logBytes-same =
       let a = ap (encodedBelow (declarationRecord (trailOf d u))) (s .trail .entities) ∙ encodedBelow-same _ _ (c .entities) declaration-same in
       let b = ap (encodedBelow (eventRecord (trailOf d u))) (s .trail .edges) ∙ encodedBelow-same _ _ (c .edges) (s .trail .events) in
-      λ j. headerBytes ++ (a j ++ b j)
+      let v = version-same in
+      let e = ap (signaturesBelow (trailOf d u .entity)) (s .trail .entities) ∙ signaturesBelow-same _ _ (c .entities) (s .trail .sorts) in
+      λ j. headerBytes (v j) ++ (a j ++ (b j ++ e j))
 
   log-same : (out : List ℕ) → keptLogOf d u out ≡ keptLogOf c t out
   unfolding keptLogOf logChecks

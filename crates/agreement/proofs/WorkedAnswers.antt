@@ -22,7 +22,7 @@ use Rattle.rules.specs.declared.ForwardAnswer.{ForwardAnswer}
 use Rattle.rules.specs.Trail.{Tables, trailOf, counts, freshCounts, none}
 use Rattle.rules.specs.Backward.{bufferChecks, traceRefusals, BackwardTrace, backwardOf}
 use Rattle.rules.specs.Forward.{ForwardTrace}
-use Rattle.rules.specs.KeptLog.{logBytes}
+use Rattle.rules.specs.KeptLog.{logBytes, signedIn}
 use Rattle.rules.specs.PlainList.{worked}
 use Rattle.rules.specs.Calls.{plainAfter}
 use Rattle.rules.specs.Worked.{room, file, batch, backward, forward, WorkedTrail}
@@ -39,6 +39,8 @@ use Rattle.agreement.proofs.Left.{after-batch, leaving}
 use Rattle.agreement.proofs.Demand2.{demand2}
 use Rattle.agreement.proofs.Demand3.{next-backward, next-forward}
 use Rattle.agreement.proofs.Determined.{determined}
+use Rattle.agreement.proofs.WorkedEvents.{computed}
+use Rattle.soundness.proofs.Counted.{signed-same}
 
 pub rows : WorkedTrail
 rows = cases .0
@@ -114,12 +116,19 @@ not-refused xs work marks l w m =
     (declared-next (n .entities) cs xs (λ x i. omega (arith, four, l x i))
     ∙ all-false-passed cs (le-ltb (length work) (n .versions) (omega (arith, five)), (le-ltb (length marks) (n .entities) (omega (arith, four)), tt)))
 
+-- none of the four is signed
+pub unsigned-batch : signedIn (trailOf (batch 8 .counts) (batch 8 .tables)) ≡ 0
+unsigned-batch =
+    signed-same (trailOf (batch 8 .counts) (batch 8 .tables)) (worked workedPlain) (ap (λ (c : Counts). c .entities) (sym (worked-holds .counts)))
+    (λ x l. ap (λ (r : EntityRow). r .sort) (worked-holds .entity-rows x (omega (arith, ap (λ (c : Counts). c .entities) (worked-holds .counts)))))
+    ∙ computed .unsigned
+
 -- a writer with an output of 104 bytes or more is not refused
 pub log-not-refused : (out : List ℕ) → 104 ≤ length out → cond (ltb (length out) (length (logBytes (worked workedPlain)))) (refusalNo OutputShort) 0 ≡ 0
 log-not-refused out l =
     let n = worked workedPlain .counts in
     let e : n .edges ≡ 4 = ap (λ (c : Counts). c .edges) (sym (worked-holds .counts)) ∙ edges-are worked-holds in
-    ap (λ (b : Bool). cond b (refusalNo OutputShort) 0) (le-ltb (length out) (length (logBytes (worked workedPlain))) (omega (arith, four, length-logBytes (worked workedPlain))))
+    ap (λ (b : Bool). cond b (refusalNo OutputShort) 0) (le-ltb (length out) (length (logBytes (worked workedPlain))) (omega (arith, four, computed .unsigned, length-logBytes (worked workedPlain))))
 
 -- the same bytes for the four entities
 marks-are : (marks : List ℕ) {marks′ left : List ℕ} → SameMarks (worked workedPlain .counts .entities) marks marks′ → marks′ ≡ left → SameMarks 4 marks left

@@ -10,14 +10,15 @@ use Rattle.record.specs.declared.Kind.the-variants.{Read, Write}
 use Rattle.record.specs.declared.Event.{Event}
 use Rattle.record.specs.Layout.{kindOf}
 use Rattle.record.specs.Header.{headerChecks}
-use Rattle.record.specs.Decode.{declarationChecks, eventChecks, decodeOf, decodeFrom}
-use Rattle.rules.specs.Sound.{isObject, isSubject, sourceFits, targetFits, mayFollow}
+use Rattle.record.specs.Decode.{zeroChecks, declarationChecks, eventChecks, decodeOf, decodeFrom}
+use Rattle.rules.specs.Sound.{isObject, isSubject, isSigned, sumBelow, sourceFits, targetFits, mayFollow}
 use Rattle.rules.specs.Decide.{goesTo, newestTo, leaves, repeatOf, hasOutgoing, decisionOf}
 use Rattle.rules.specs.Record.{declarationRefusals, earlyRefusals, roomRefusals, eventRefusals, refusalOf, changeOf}
 use Rattle.rules.specs.Batch.{readFrom, contentsOf}
 use Rattle.rules.specs.History.{Item, kept, dropped}
 use Rattle.rules.specs.PlainList.{put, worked, itemsOf, added, addedBy}
 use Rattle.rules.specs.MemberCases.{writtenPlain}
+use Rattle.rules.specs.KeptLog.{signedIn}
 use Rattle.agreement.specs.Refuted.{workedPlain, longerPlain}
 
 abbrev pub event : Kind → ℕ → ℕ → ℕ → Event
@@ -32,10 +33,11 @@ items-by-7 = dropped (event Read 3 1 7) ∷ kept (event Write 1 2 6) ∷ items-b
 pub record Computed : Type 0 where
   pub items : itemsOf workedPlain ≡ items-by-7
   pub longer : itemsOf longerPlain ≡ kept (event Write 1 3 8) ∷ items-by-7
+  pub unsigned : signedIn (worked workedPlain) ≡ 0
   pub entities : worked longerPlain .counts .entities ≡ 4
   pub written : itemsOf writtenPlain ≡ kept (event Write 1 0 2) ∷ kept (event Read 0 1 1) ∷ []
   pub written-entities : worked writtenPlain .counts .entities ≡ 3
 
 pub computed : Computed
-unfolding firstOf entityAt versionAt edgeAt entityCapacity versionCapacity edgeCapacity kindOf headerChecks declarationChecks eventChecks decodeOf decodeFrom isObject isSubject sourceFits targetFits mayFollow goesTo newestTo leaves repeatOf hasOutgoing decisionOf declarationRefusals earlyRefusals roomRefusals eventRefusals refusalOf changeOf readFrom contentsOf put added addedBy
-computed = record { items = refl; longer = refl; entities = refl; written = refl; written-entities = refl }
+unfolding firstOf entityAt versionAt edgeAt entityCapacity versionCapacity edgeCapacity kindOf headerChecks zeroChecks declarationChecks eventChecks decodeOf decodeFrom isObject isSubject isSigned sumBelow sourceFits targetFits mayFollow goesTo newestTo leaves repeatOf hasOutgoing decisionOf declarationRefusals earlyRefusals roomRefusals eventRefusals refusalOf changeOf readFrom contentsOf put added addedBy
+computed = record { items = refl; longer = refl; unsigned = refl; entities = refl; written = refl; written-entities = refl }

@@ -1,8 +1,10 @@
 -- Demand 2, of every list of calls: the tables are those that the plain list gives when worked from none. The working
--- (`worked`) is the version building of the paper's section 4 under document 01's rules, with the counts of document 02, 2.1.
+-- (`worked`) is the version building of the paper's section 4 under document 01's rules, with the counts of document 02, 2.1,
+-- and the signatures of 2.4.
 use Prim.Native.Nat.{ℕ, _+_, _≤_, _<_}
 use mathlib.Core.Path.{_≡_}
-use mathlib.Core.List.{List, _∷_, _++_, reverse}
+use mathlib.Core.Logic.{_↔_}
+use mathlib.Core.List.{List, _∷_, _++_, reverse, List·Memᴰ}
 use lib.ListN.{length, take}
 use Rattle.refusals.specs.Refusals.{numberOf}
 use Rattle.rows.specs.declared.Counts.{Counts}
@@ -15,9 +17,11 @@ use Rattle.rules.specs.Batch.{contentsOf, batchOf}
 use Rattle.rules.specs.History.{accepted, keptEvents}
 use Rattle.rules.specs.PlainList.{worked, itemsOf, triedOver, refusedBy}
 use Rattle.rules.specs.StandsFor.{standsFor, lastTime}
+use Rattle.rules.specs.KeptLog.{signatureRecord}
 use Rattle.rules.specs.Calls.{Call, batch, plainAfter}
 use Rattle.causality.specs.Statements.{Logged}
 use Rattle.agreement.specs.Left.{LeftBy}
+use Rattle.agreement.specs.Signed.{SignedAt, NoMore, Untouched}
 
 -- counts and rows in use are those of the plain list, its last record first
 pub record Holds (rs : List Record) (c : Counts) (t : Tables) : Type 0 where
@@ -34,6 +38,13 @@ pub record Holds (rs : List Record) (c : Counts) (t : Tables) : Type 0 where
   pub counts-are : (k : ℕ) → k < c .edges → edgeAt (t .edges) k .count ≡ length (standsFor rs k)
   pub lasts-are : (k : ℕ) → k < c .edges → edgeAt (t .edges) k .last ≡ lastTime (standsFor rs k)
   pub sum-is : countSum (edgeAt (t .edges)) (c .edges) ≡ length (accepted (itemsOf rs))
+  -- document 02, 2.4: "accepted and the last time stay"; an entity is signed exactly if its signature is among the records, and takes no
+  -- more writes then
+  pub last-is : c .last ≡ lastTime (accepted (itemsOf rs))
+  pub signatures : (x : ℕ) → SignedAt (trailOf c t) x ↔ List·Memᴰ (signatureRecord x) rs
+  pub no-more : NoMore rs
+  -- traces are as without the signatures
+  pub untouched : Untouched rs
   -- "Over a trail grown from fresh, versions ≤ entities + edges."
   pub versions : c .versions ≤ c .entities + c .edges
 

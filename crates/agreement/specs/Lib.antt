@@ -1,6 +1,7 @@
 -- what lists of calls leave
 pub mod Left
 -- the claims
+pub mod Signed
 pub mod Demand2
 pub mod Demand3
 pub mod OneEntity

@@ -1,13 +1,13 @@
 -- Document 01, "Agreement": "These are shut out". The claims determine counts, rows in use, marks, count, intake and the numbers that the
 -- calls return (`Determined`, and equations), so a wrong one contradicts them. `Refuted` says it of each wrong answer that the document
--- names, of wrong counts and last times of edges (document 02, 2.1), of wrong traces of a list (2.2) and of wrong numbers of edges tried (2.3),
--- for the worked list of calls, that list with one event more, or a file of two or three events: no answer that is wrong in this way, whatever
--- it is otherwise, is one of which the claim holds.
+-- names, of wrong counts and last times of edges (document 02, 2.1), of wrong traces of a list (2.2), of wrong numbers of edges tried (2.3) and
+-- of wrong signatures (2.4), for the worked list of calls, that list with one event more, the worked file with a signature after it, or a file of
+-- two or three events: no answer that is wrong in this way, whatever it is otherwise, is one of which the claim holds.
 use Prim.Native.Nat.{ℕ, _≤_, _<_}
 use mathlib.Core.Path.{_≡_}
 use mathlib.Core.List.{List, [], _∷_, _++_, List·Memᴰ}
 use lib.ListN.{length, getD, replicate}
-use Rattle.refusals.specs.declared.Refusal.the-variants.{EdgesFull, Unsound}
+use Rattle.refusals.specs.declared.Refusal.the-variants.{EdgesFull, Unsound, Signed}
 use Rattle.refusals.specs.Refusals.{refusalNo}
 use Rattle.rows.specs.declared.Counts.{Counts}
 use Rattle.rows.specs.Rows.{entityAt, versionAt, edgeAt}
@@ -19,13 +19,15 @@ use Rattle.rules.specs.Sound.{countSum}
 use Rattle.rules.specs.Batch.{Batched}
 use Rattle.rules.specs.Backward.{BackwardTrace, backwardOf}
 use Rattle.rules.specs.Forward.{ForwardTrace}
-use Rattle.rules.specs.KeptLog.{KeptLog}
+use Rattle.rules.specs.KeptLog.{KeptLog, signatureRecord}
 use Rattle.rules.specs.History.{Item, accepted, keptEvents}
 use Rattle.rules.specs.PlainList.{worked, itemsOf}
 use Rattle.rules.specs.Calls.{Call, batch, plainAfter}
 use Rattle.rules.specs.Worked as worked-trail
 use Rattle.rules.specs.CallCases.{execves}
 use Rattle.rules.specs.MemberCases.{writtenPlain}
+use Rattle.rules.specs.Order.{event}
+use Rattle.rules.specs.SignedCases.{signedFile, signedPlain, workedSigned, reportWritten}
 use Rattle.closure.specs.Same.{SameRows}
 use Rattle.agreement.specs.Demand2.{Holds, Answered}
 use Rattle.agreement.specs.Demand3.{BackwardAgrees, ForwardAgrees, GainsAreKept}
@@ -75,6 +77,17 @@ NoAnswer n Wrong = (a : BatchAnswer) → Wrong a → Answered [] (worked-trail.r
 
 abbrev pub NoTables : (Counts → Tables → Type 0) → Type 0
 NoTables Wrong = (c : Counts) (t : Tables) → Wrong c t → Holds workedPlain c t → ⊥
+
+-- Document 02, 2.4: the worked file with the signature of the report after it, and bytes more
+abbrev pub NoSigned : (Counts → Tables → Type 0) → Type 0
+NoSigned Wrong = (c : Counts) (t : Tables) → Wrong c t → Holds (signedPlain []) c t → ⊥
+
+abbrev pub NoSignedAnswer : List ℕ → (BatchAnswer → Type 0) → Type 0
+NoSignedAnswer bytes Wrong =
+    (a : BatchAnswer) → Wrong a → Answered [] (worked-trail.room 8) (signedFile bytes) (plainAfter (batch (worked-trail.room 8) (signedFile bytes) ∷ [])) a → ⊥
+
+abbrev pub NoSignedLog : (Batched → Type 0) → Type 0
+NoSignedLog Wrong = (c : Counts) (t : Tables) → Holds (signedPlain []) c t → (b : Batched) → Wrong b → TakenAgain c t b → ⊥
 
 -- of the four entities, none but x is marked
 abbrev pub OnlyMarked : ℕ → List ℕ → Type 0
@@ -201,3 +214,19 @@ pub record Refuted : Type 0 where
   -- the trail that took the log in gives another count than 4 in P4
   pub log-other-trace : (b : Batched) → (backwardOf (b .counts) (b .tables) 2 6 (replicate 6 9) (replicate 5 9) .answer .count ≡ 4 → ⊥)
       → TakenAgainClaim b → ⊥
+  -- document 02, 2.4: the report not signed, the study signed in its place; its latest version lost; the signature counted as accepted; the last time moved
+  pub signature-lost : NoSigned (λ c t. entityAt (t .entities) 2 .sort ≡ 0)
+  pub other-signed : NoSigned (λ c t. entityAt (t .entities) 0 .sort ≡ 2)
+  pub latest-lost : NoSigned (λ c t. (entityAt (t .entities) 2 .latest .0 ≡ 2 → ⊥))
+  pub signature-accepted : NoSigned (λ c t. c .accepted ≡ 8)
+  pub last-moved : NoSigned (λ c t. (c .last ≡ 7 → ⊥))
+  -- a write into the signed report, or a second signature, in the plain list
+  pub written-after : (c : Counts) (t : Tables) → Holds (reportWritten ∷ workedSigned) c t → ⊥
+  pub signed-twice : (c : Counts) (t : Tables) → Holds (signatureRecord 2 ∷ workedSigned) c t → ⊥
+  -- the signature refused or not counted; that write refused with another number than 17
+  pub signature-refused : NoSignedAnswer [] (λ a. (a .refusal ≡ 0 → ⊥))
+  pub signature-not-taken : NoSignedAnswer [] (λ a. a .taken ≡ 11)
+  pub write-not-refused : NoSignedAnswer (event 2 1 2 8) (λ a. (a .refusal ≡ refusalNo Signed → ⊥))
+  -- the log of the signed trail, taken in again: the report not signed; the signature not counted
+  pub log-signature-lost : NoSignedLog (λ b. entityAt (b .tables .entities) 2 .sort ≡ 0)
+  pub log-signature-not-taken : NoSignedLog (λ b. b .answer .taken ≡ 8)

@@ -1,5 +1,6 @@
 -- Demand 2's round trip: the kept log, taken into a fresh trail with as many rows, yields the same entities, kept events and
--- traces. Document 01: "Version numbers may differ after it is taken in again; work buffers are not compared then."
+-- traces. Document 01: "Version numbers may differ after it is taken in again; work buffers are not compared then." Document 02,
+-- 2.4: "Regrown trails have the same signatures."
 use Prim.Native.Nat.{ℕ, _+_, _<_}
 use mathlib.Core.Path.{_≡_}
 use mathlib.Core.Bool.{cond}
@@ -9,17 +10,17 @@ use lib.Dec.{ltb}
 use Rattle.refusals.specs.declared.Refusal.the-variants.{OutputShort}
 use Rattle.refusals.specs.Refusals.{refusalNo}
 use Rattle.rows.specs.declared.Counts.{Counts}
-use Rattle.rows.specs.Rows.{edgeAt}
+use Rattle.rows.specs.Rows.{entityAt, edgeAt}
 use Rattle.rules.specs.Trail.{Tables, capacityOf, Trail, trailOf, freshCounts}
 use Rattle.rules.specs.Batch.{Batched, batchOf}
 use Rattle.rules.specs.Backward.{backwardOf}
 use Rattle.rules.specs.Forward.{forwardOf}
-use Rattle.rules.specs.KeptLog.{eventRecord, logBytes, KeptLog, keptLogOf}
+use Rattle.rules.specs.KeptLog.{eventRecord, signedBelow, logBytes, KeptLog, keptLogOf}
 use Rattle.rules.specs.PlainList.{worked}
 use Rattle.rules.specs.Calls.{Call, EnoughRows, plainAfter}
 use Rattle.agreement.specs.Left.{LeftBy}
 
--- the same entities and kept events: those of U are those of T
+-- the same entities, signatures (a sort tells whether an entity is signed) and kept events: those of U are those of T
 pub record SameTrail (T U : Trail) : Type 0 where
   pub entities : U .counts .entities ≡ T .counts .entities
   pub sorts : (x : ℕ) → x < T .counts .entities → U .entity x .sort ≡ T .entity x .sort
@@ -37,7 +38,7 @@ pub record SameCalls (c : Counts) (t : Tables) (c′ : Counts) (t′ : Tables) :
 -- the batch takes in every record of the log, and the trail that it leaves is the same, but for counts and last times of edges
 pub record TakenAgain (c : Counts) (t : Tables) (b : Batched) : Type 0 where
   pub refusal : b .answer .refusal ≡ 0
-  pub taken : b .answer .taken ≡ c .entities + c .edges
+  pub taken : b .answer .taken ≡ c .entities + c .edges + signedBelow (entityAt (t .entities)) (c .entities)
   pub same : SameTrail (trailOf c t) (trailOf (b .counts) (b .tables))
   -- document 02, 2.1: "a trail regrown .. has counts of 1"; each edge stands for its own event alone
   pub counts-one : (k : ℕ) → k < c .edges → edgeAt (b .tables .edges) k .count ≡ 1

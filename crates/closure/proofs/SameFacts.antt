@@ -2,13 +2,14 @@
 use Prim.Native.Nat.{_<_}
 use native.Mathlib.Omega.{arith}
 use mathlib.Core.Path.{_≡_, sym, _∙_, ap}
+use mathlib.Core.Logic.{inl}
 use Rattle.rows.specs.declared.EntityRow.{EntityRow}
 use Rattle.rows.specs.declared.VersionRow.{VersionRow}
 use Rattle.rows.specs.declared.EdgeRow.{EdgeRow}
 use Rattle.rules.specs.Trail.{Trail}
 use Rattle.rules.specs.Sound.{countSum}
 use Rattle.soundness.specs.Facts.{RowFacts}
-use Rattle.soundness.proofs.Sums.{countSum-same}
+use Rattle.soundness.proofs.Sums.{sum-same}
 use Rattle.soundness.proofs.Extends.{Extends, rows-stay, old-entity, old-version, same-edge, old-rises}
 use Rattle.closure.specs.Same.{SameRows}
 
@@ -18,7 +19,7 @@ module _ {T T′ : Trail} (s : SameRows T T′) (last : T .counts .last ≡ T′
     entities-le = omega (arith, s .entities);
     versions-le = omega (arith, s .versions);
     last-le = omega arith;
-    sort-same = λ x l. sym (ap (λ (r : EntityRow). r .sort) (s .entity-rows x l));
+    sort-stays = λ x l. inl (sym (ap (λ (r : EntityRow). r .sort) (s .entity-rows x l)));
     owner-same = λ k l. sym (ap (λ (r : VersionRow). r .entity .0) (s .version-rows k l));
     start-same = λ k l. sym (ap (λ (r : VersionRow). r .start) (s .version-rows k l));
     previous-same = λ k l. sym (ap (λ (r : VersionRow). r .previous .0) (s .version-rows k l));
@@ -39,6 +40,6 @@ module _ {T T′ : Trail} (s : SameRows T T′) (last : T .counts .last ≡ T′
     edge = λ k l. let h : k < T .counts .edges = omega (arith, s .edges) in same-edge T T′ f same-extends k h (sym (s .edge-rows k h));
     rises = λ k l. old-rises T T′ f same-extends k (omega (arith, s .edges));
     sum = ap (countSum (T′ .edge)) (sym (s .edges))
-        ∙ sym (countSum-same (T .edge) (T′ .edge) (T .counts .edges) (λ k l. ap (λ (r : EdgeRow). r .count) (s .edge-rows k l)))
+        ∙ sym (sum-same (λ (r : EdgeRow). r .count) (T .edge) (T′ .edge) (T .counts .edges) (λ k l. ap (λ (r : EdgeRow). r .count) (s .edge-rows k l)))
         ∙ f .sum ∙ accepted;
   }

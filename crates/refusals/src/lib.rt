@@ -1,4 +1,4 @@
-// The refusals of document 01 by name. Their numbers stand in one definition, refusalNo.
+// The refusals of documents 01 and 02 by name. Their numbers stand in one definition, refusalNo.
 ghost use mathlib.Core.Path.{_≡_};
 ghost use Rattle.refusals.specs.Refusals.{refusalNo};
 
@@ -21,6 +21,8 @@ pub enum Refusal {
     BufferShort,
     OutputShort,
     Unsound,
+    // of document 02
+    Signed,
 }
 
 // What a list of checks gives.
@@ -50,5 +52,6 @@ pub fn refusal_number(r: Refusal) -> u32
         Refusal::BufferShort => 14,
         Refusal::OutputShort => 15,
         Refusal::Unsound => 16,
+        Refusal::Signed => 17,
     }
 }

@@ -9,6 +9,7 @@ pub mod TriedCases
 pub mod TraceCases
 pub mod MemberCases
 pub mod LogCases
+pub mod SignedCases
 pub mod ListingCases
 pub mod CallCases
 pub mod Start

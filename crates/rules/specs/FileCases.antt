@@ -75,11 +75,11 @@ abbrev pub encodedKind : Kind → ℕ
 encodedKind k = getD (encodeOf (records.Event (record { kind = k; source = entityNo 0; target = entityNo 1; time = 1 }))) 0 0
 
 pub record FileCases : Type 0 where
-  -- "Header, 8 bytes: hex 53 4C 54 ("SLT"), a 16-bit version, 1, then three zero bytes."
+  -- "Header, 8 bytes: hex 53 4C 54 ("SLT"), a 16-bit version, 1, then three zero bytes."; document 02, 2.4: version 1 or 2
   pub mark-0 : map (headerWith 0) (0x52 ∷ 0x53 ∷ 0x54 ∷ []) ≡ 1 ∷ 0 ∷ 1 ∷ []
   pub mark-1 : map (headerWith 1) (0x4B ∷ 0x4C ∷ 0x4D ∷ []) ≡ 1 ∷ 0 ∷ 1 ∷ []
   pub mark-2 : map (headerWith 2) (0x53 ∷ 0x54 ∷ 0x55 ∷ []) ≡ 1 ∷ 0 ∷ 1 ∷ []
-  pub version-low : map (headerWith 3) (0 ∷ 1 ∷ 2 ∷ 255 ∷ []) ≡ 2 ∷ 0 ∷ 2 ∷ 2 ∷ []
+  pub version-low : map (headerWith 3) (0 ∷ 1 ∷ 2 ∷ 3 ∷ 255 ∷ []) ≡ 2 ∷ 0 ∷ 0 ∷ 2 ∷ 2 ∷ []
   pub version-high : map (headerWith 4) (0 ∷ 1 ∷ 255 ∷ []) ≡ 0 ∷ 2 ∷ 2 ∷ []
   pub zero-5 : map (headerWith 5) (0 ∷ 1 ∷ 255 ∷ []) ≡ 0 ∷ 1 ∷ 1 ∷ []
   pub zero-6 : map (headerWith 6) (0 ∷ 1 ∷ 255 ∷ []) ≡ 0 ∷ 1 ∷ 1 ∷ []
@@ -94,16 +94,16 @@ pub record FileCases : Type 0 where
   -- an event with 1, and with 255, at each byte in turn: kind, a zero field, source, target, a zero field, time
   pub event-1 : map (λ i. readRefusal i 1) (0 ∷ 1 ∷ 2 ∷ 3 ∷ 4 ∷ 5 ∷ 6 ∷ 7 ∷ 8 ∷ 9 ∷ 10 ∷ 11 ∷ []) ≡ 0 ∷ 4 ∷ 7 ∷ 5 ∷ 0 ∷ 5 ∷ 4 ∷ 4 ∷ replicate 4 0
   pub event-255 : map (λ i. readRefusal i 255) (0 ∷ 1 ∷ 2 ∷ 3 ∷ 4 ∷ 5 ∷ 6 ∷ 7 ∷ 8 ∷ 9 ∷ 10 ∷ 11 ∷ []) ≡ 4 ∷ 4 ∷ 5 ∷ 5 ∷ 5 ∷ 5 ∷ 4 ∷ 4 ∷ replicate 4 0
-  -- "Kind above 5": read, load and execve of 0 by 1; a write and a fork have the wrong sorts; kind 0 is a declaration
+  -- "Kind above 5", in a version 1 file: read, load and execve of 0 by 1; a write and a fork have the wrong sorts; kind 0 is a declaration
   pub kind : map (readRefusal 0) (0 ∷ 1 ∷ 2 ∷ 3 ∷ 4 ∷ 5 ∷ 6 ∷ 7 ∷ []) ≡ 4 ∷ 0 ∷ 8 ∷ 0 ∷ 8 ∷ 0 ∷ 4 ∷ 4 ∷ []
   pub kinds : map kindOf (1 ∷ 2 ∷ 3 ∷ 4 ∷ 5 ∷ []) ≡ Read ∷ Write ∷ Load ∷ Fork ∷ Execve ∷ []
   -- "Multi-byte fields are little-endian.", past 8, 16 and 24 bits
   pub time-bytes : map (λ i. readWith i 2 .counts .last) (8 ∷ 9 ∷ 10 ∷ 11 ∷ []) ≡ 2 ∷ 513 ∷ 131073 ∷ 33554433 ∷ []
-  pub decoded-event : decodeOf numberedBytes ≡ Whole numbered
-  pub decoded-declaration : decodeOf numberedSubjectBytes ≡ Whole numberedSubject
+  pub decoded-event : decodeOf 1 numberedBytes ≡ Whole numbered
+  pub decoded-declaration : decodeOf 1 numberedSubjectBytes ≡ Whole numberedSubject
   pub encoded-event : encodeOf numbered ≡ numberedBytes
   pub encoded-declaration : encodeOf numberedSubject ≡ numberedSubjectBytes
-  pub decoded-greatest : decodeOf greatestBytes ≡ Whole greatestEvent
+  pub decoded-greatest : decodeOf 1 greatestBytes ≡ Whole greatestEvent
   pub encoded-greatest : map encodeOf (greatestEvent ∷ greatestObject ∷ []) ≡ greatestBytes ∷ (0 ∷ 0 ∷ 255 ∷ 255 ∷ replicate 8 0) ∷ []
   pub encoded-kinds : map encodedKind (Read ∷ Write ∷ Load ∷ Fork ∷ Execve ∷ []) ≡ 1 ∷ 2 ∷ 3 ∷ 4 ∷ 5 ∷ []
   -- the greatest time, and none above it

@@ -37,5 +37,6 @@ pub mod TriedCases
 pub mod TraceCases
 pub mod MemberCases
 pub mod LogCases
+pub mod SignedCases
 pub mod ListingCases
 pub mod CallCases

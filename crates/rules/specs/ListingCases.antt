@@ -26,7 +26,7 @@ pub record ListingCases : Type 0 where
   pub rows : capacityOf listingTables ≡ record { entities = 2730; versions = 2730; edges = 2730 }
   -- "`refused` with the number and the record (from 1; 0 before any record)"
   pub header-alone : listingOf header ≡ text "trail 0 0 0 0 0\n"
-  pub wrong-version : listingOf (0x53 ∷ 0x4C ∷ 0x54 ∷ 2 ∷ 0 ∷ 0 ∷ 0 ∷ 0 ∷ []) ≡ text "trail 0 0 0 0 0\nrefused 2 0\n"
+  pub wrong-version : listingOf (0x53 ∷ 0x4C ∷ 0x54 ∷ 3 ∷ 0 ∷ 0 ∷ 0 ∷ 0 ∷ []) ≡ text "trail 0 0 0 0 0\nrefused 2 0\n"
   pub first-cut : listingOf (header ++ (0 ∷ [])) ≡ text "trail 0 0 0 0 0\nrefused 3 1\n"
   pub last-cut : listingOf (take 103 (file 1)) ≡ text "trail 4 4 2 3 3\nedge 0 1 1 1\nedge 1 2 2 2\nrefused 3 8\n"
   pub record-numbers : map recordNo (answer 1 0 0 ∷ answer 2 0 0 ∷ answer 16 0 0 ∷ answer 3 0 0 ∷ answer 4 1 0 ∷ answer 15 7 0 ∷ []) ≡ 0 ∷ 0 ∷ 0 ∷ 1 ∷ 2 ∷ 8 ∷ []

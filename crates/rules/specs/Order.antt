@@ -1,5 +1,6 @@
 -- Document 01: "Each refusal is given when its condition is the first to hold in this order, and never otherwise." Rows in
--- which two conditions hold at once, for each two that stand next to each other. The proof is in proofs/Cases.antt.
+-- which two conditions hold at once, for each two that stand next to each other; those with 17 (document 02, 2.4) are in SignedCases. The
+-- proof is in proofs/Cases.antt.
 use Prim.Native.Nat.{ℕ}
 use mathlib.Core.Path.{_≡_}
 use mathlib.Core.List.{List, [], _∷_, _++_}
@@ -50,8 +51,8 @@ Refuses c t bytes r n = batchOf c t (header ++ bytes) .answer ≡ answer (refusa
 pub record OrderOfRefusals : Type 0 where
   -- "A batch checks 16, 1, 2, then per record 3, 4"
   pub r16-1 : batchOf (used 1) unsound [] .answer ≡ answer (refusalNo Unsound) 0 0
-  pub r1-2 : batchOf freshCounts noRows (0x53 ∷ 0x4C ∷ 0x55 ∷ 2 ∷ 0 ∷ 0 ∷ 0 ∷ 0 ∷ []) .answer ≡ answer (refusalNo NotEventFile) 0 0
-  pub r1-2-zeros : batchOf freshCounts noRows (0x53 ∷ 0x4C ∷ 0x54 ∷ 2 ∷ 0 ∷ 0 ∷ 0 ∷ 1 ∷ []) .answer ≡ answer (refusalNo NotEventFile) 0 0
+  pub r1-2 : batchOf freshCounts noRows (0x53 ∷ 0x4C ∷ 0x55 ∷ 3 ∷ 0 ∷ 0 ∷ 0 ∷ 0 ∷ []) .answer ≡ answer (refusalNo NotEventFile) 0 0
+  pub r1-2-zeros : batchOf freshCounts noRows (0x53 ∷ 0x4C ∷ 0x54 ∷ 3 ∷ 0 ∷ 0 ∷ 0 ∷ 1 ∷ []) .answer ≡ answer (refusalNo NotEventFile) 0 0
   pub r2-3 : batchOf freshCounts noRows (0x53 ∷ 0x4C ∷ 0x54 ∷ 1 ∷ 1 ∷ 0 ∷ 0 ∷ 0 ∷ 7 ∷ []) .answer ≡ answer (refusalNo WrongVersion) 0 0
   pub r3-4 : Refuses freshCounts noRows (6 ∷ []) CutShort 0
   pub r3-after : Refuses freshCounts full (declare 0 1 ++ replicate 11 9) CutShort 1

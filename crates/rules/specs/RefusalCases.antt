@@ -1,11 +1,11 @@
--- Document 01, "Refused because ..": the numbers, and each refusal of a record just given and just not. The proof is in
+-- Document 01, "Refused because ..": the numbers, and each refusal of a record but 17 just given and just not. The proof is in
 -- proofs/RefusalCases.antt.
 use Prim.Native.Nat.{ℕ, _-_}
 use mathlib.Core.Path.{_≡_}
 use mathlib.Core.List.{List, [], _∷_, _++_, map}
 use lib.ListN.{replicate}
 use Rattle.refusals.specs.declared.Refusal.{Refusal}
-use Rattle.refusals.specs.declared.Refusal.the-variants.{NotEventFile, WrongVersion, CutShort, BadField, Undeclared, NotNext, SourceIsTarget, WrongSort, NotLater, EntitiesFull, VersionsFull, EdgesFull, AcceptedFull, BufferShort, OutputShort, Unsound}
+use Rattle.refusals.specs.declared.Refusal.the-variants.{NotEventFile, WrongVersion, CutShort, BadField, Undeclared, NotNext, SourceIsTarget, WrongSort, NotLater, EntitiesFull, VersionsFull, EdgesFull, AcceptedFull, BufferShort, OutputShort, Unsound, Signed}
 use Rattle.refusals.specs.Refusals.{refusalNo}
 use Rattle.rows.specs.declared.Counts.{Counts}
 use Rattle.rules.specs.Trail.{Tables, tables, counts, mostAccepted}
@@ -14,11 +14,11 @@ use Rattle.rules.specs.Worked.{header, answer, file}
 use Rattle.rules.specs.Order.{declare, event, used, fullOf, full, unsound}
 use Rattle.rules.specs.SoundCases.{entityRows, versionRows, edgeRowsOf, soundRows, versionsUsed}
 
--- "Refused because of the input", "Refused because of the state"
+-- "Refused because of the input", "Refused because of the state", and document 02, 2.4
 abbrev pub refusals : List Refusal
 refusals =
     NotEventFile ∷ WrongVersion ∷ CutShort ∷ BadField ∷ Undeclared ∷ NotNext ∷ SourceIsTarget ∷ WrongSort ∷ NotLater
-    ∷ EntitiesFull ∷ VersionsFull ∷ EdgesFull ∷ AcceptedFull ∷ BufferShort ∷ OutputShort ∷ Unsound
+    ∷ EntitiesFull ∷ VersionsFull ∷ EdgesFull ∷ AcceptedFull ∷ BufferShort ∷ OutputShort ∷ Unsound ∷ Signed
     ∷ []
 
 -- the sound rows of SoundCases, in tables with e, v and d numbers more; with n events accepted
@@ -60,7 +60,7 @@ abbrev pub fullRefusal : ℕ → ℕ → ℕ → ℕ
 fullRefusal u v k = refusalIn (versionsUsed 5) soundRows (event k u v 10)
 
 pub record RefusalCases : Type 0 where
-  pub refusal-numbers : map refusalNo refusals ≡ 1 ∷ 2 ∷ 3 ∷ 4 ∷ 5 ∷ 6 ∷ 7 ∷ 8 ∷ 9 ∷ 10 ∷ 11 ∷ 12 ∷ 13 ∷ 14 ∷ 15 ∷ 16 ∷ []
+  pub refusal-numbers : map refusalNo refusals ≡ 1 ∷ 2 ∷ 3 ∷ 4 ∷ 5 ∷ 6 ∷ 7 ∷ 8 ∷ 9 ∷ 10 ∷ 11 ∷ 12 ∷ 13 ∷ 14 ∷ 15 ∷ 16 ∷ 17 ∷ []
   -- "6. Declared number is not the next."
   pub next-number : map declareRefusal (0 ∷ 3 ∷ 4 ∷ 5 ∷ []) ≡ 6 ∷ 6 ∷ 0 ∷ 6 ∷ []
   -- "5. Entity not declared." "7. Source equals target."

@@ -11,6 +11,7 @@ use Rattle.refusals.specs.Refusals.{firstOf, numberOf}
 use Rattle.rows.specs.declared.Counts.{Counts}
 use Rattle.record.specs.declared.Declaration.{Declaration}
 use Rattle.record.specs.declared.Event.{Event}
+use Rattle.record.specs.declared.Signature.{Signature}
 use Rattle.record.specs.declared.Record.{Record}
 use Rattle.record.specs.declared.Record.the-variants as records
 use Rattle.rules.specs.declared.Found.{Found}
@@ -40,6 +41,7 @@ pub data Tried (T : Trail) : Record → ℕ → Type 0 where
   searched : {e : Event} {tried : ℕ} {found : Found} → folds (e .kind) ≡ true → SearchFor T e tried found → Tried T (records.Event e) tried
   skipped : {e : Event} → folds (e .kind) ≡ false → Tried T (records.Event e) 0
   declared : {d : Declaration} → Tried T (records.Declaration d) 0
+  signed : {s : Signature} → Tried T (records.Signature s) 0
 
 -- how many are tried for records "it took in", up to the first one refused
 pub data AllTried : Counts → Tables → List Record → ℕ → Type 0 where

@@ -1,4 +1,4 @@
--- Document 01, "Tables", and document 02, 2.1: sound tables, each clause just met and just missed. The proof is in proofs/SoundCases.antt.
+-- Document 01, "Tables", and document 02, 2.1 and 2.4: sound tables, each clause just met and just missed. The proof is in proofs/SoundCases.antt.
 use Prim.Native.Nat.{ℕ, _-_}
 use mathlib.Core.Path.{_≡_}
 use mathlib.Core.Bool.{Bool, true, false}
@@ -101,8 +101,8 @@ pub record SoundCases : Type 0 where
   pub whole-rows : soundWith (versionsUsed 5) soundRows ≡ true
   -- "edges ≤ accepted ≤ 1,000,000"
   pub accepted : map acceptedIs (4 ∷ 5 ∷ 1000000 ∷ 1000001 ∷ []) ≡ false ∷ true ∷ true ∷ false ∷ []
-  -- "a sort is 0 or 1"
-  pub sort : map (λ s. entityIs 3 s 4) (0 ∷ 1 ∷ 2 ∷ []) ≡ true ∷ true ∷ false ∷ []
+  -- "a sort is 0 or 1"; document 02, 2.4: or 2
+  pub sort : map (λ s. entityIs 3 s 4) (0 ∷ 1 ∷ 2 ∷ 3 ∷ []) ≡ true ∷ true ∷ true ∷ false ∷ []
   -- "a latest version exists and is of that entity"
   pub latest-exists : map sixthIsLatest (5 ∷ 6 ∷ []) ≡ false ∷ true ∷ []
   pub latest-of-first : map (entityIs 0 0) (0 ∷ 4 ∷ []) ≡ true ∷ false ∷ []

@@ -23,6 +23,7 @@ unfoldable pub standsFor : List Record → ℕ → List Event
 standsFor [] k = []
 standsFor (records.Declaration d ∷ rs) k = standsFor rs k
 standsFor (records.Event e ∷ rs) k = cond (eqb (edgeFor (worked rs) (decisionOf (worked rs) e)) k) (e ∷ standsFor rs k) (standsFor rs k)
+standsFor (records.Signature s ∷ rs) k = standsFor rs k
 
 -- the time of the last accepted of these, 0 if there is none
 abbrev pub lastTime : List Event → ℕ

@@ -92,7 +92,7 @@ pub record TriedCases : Type 0 where
   pub tried-if-sound : repeatWith full 4 0 ≡ answer 0 1 1
   pub refused-16 : repeatWith unsound 4 0 ≡ answer 16 0 0
   pub refused-1 : repeatWith full 0 0x52 ≡ answer 1 0 0
-  pub refused-2 : repeatWith full 3 2 ≡ answer 2 0 0
+  pub refused-2 : repeatWith full 3 3 ≡ answer 2 0 0
   -- the edges in use, and no other row
   pub unused-row : batchOf (counts 2 2 0 0 5) full (header ++ event 1 0 1 6) .answer ≡ answer 0 1 0
   -- on tables that no file grew: of two edges that are hits the newest; none of two; an edge to an older version, which is the newest

@@ -10,11 +10,12 @@ use borrow.Author.Tests.{ltb-true, leb-true, eqb-false, not-true, lt-ltb, le-leb
 use Rattle.refusals.proofs.Checks.{not-true-of}
 use Rattle.record.specs.Layout.{mostKind}
 use Rattle.rules.specs.Trail.{Trail, ownerOf}
-use Rattle.rules.specs.Sound.{every, allBelow, mayFollow, timeBefore, edgeTest}
-use Rattle.soundness.specs.Facts.{EntityFacts, VersionFacts, EdgeFacts}
+use Rattle.rules.specs.KeptLog.{declaredSort}
+use Rattle.rules.specs.Sound.{every, allBelow, sourceFits, targetFits, mayFollow, timeBefore, edgeTest}
+use Rattle.soundness.specs.Facts.{EdgeFacts}
 use Rattle.soundness.specs.Parts.{codeOf, Owners, sortsFit, soundCodes, codedEdge, codedTest}
 use Rattle.soundness.proofs.All.{every-at, all-at, done, _also_, hold-every}
-use Rattle.soundness.proofs.Tests.{sort-low}
+use Rattle.soundness.proofs.Sorts.{declared-low, declared-subject, source-same, target-same}
 use Rattle.soundness.proofs.Facts.{edge-facts, edge-after}
 use Rattle.soundness.proofs.Passes.{edge-passes}
 
@@ -47,22 +48,27 @@ pub every-six : (a b c d e f x : Bool) → x ≡ a → (((((x && b) && c) && d) 
 unfolding every
 every-six a b c d e f x q = simp (q, and-assoc, and-true)
 
--- sound entities and versions, and the codes of the versions' entities
-module _ (T : Trail) (owners : List ℕ) (f : (x : ℕ) → x < T .counts .entities → EntityFacts T x) (g : (k : ℕ) → k < T .counts .versions → VersionFacts T k) (o : Owners T (T .counts .versions) owners) where
+-- the codes of the versions' entities
+module _ (T : Trail) (owners : List ℕ) (o : Owners T (T .counts .versions) owners) where
   abbrev code : ℕ → ℕ
   code v = getD owners v 0
 
   abbrev sort : ℕ → ℕ
   sort v = T .entity (ownerOf T v) .sort
 
-  sort-in : (v : ℕ) → v < T .counts .versions → sort v ≤ 1
-  sort-in v l = sort-low (sort v) (f _ (g v l .owner-in) .sort-is)
+  bit-of : (v : ℕ) → v < T .counts .versions → code v % 2 ≡ declaredSort (sort v)
+  bit-of v l = let q = o v l in let s = declared-low (sort v) in omega arith
 
-  sort-of : (v : ℕ) → v < T .counts .versions → code v % 2 ≡ sort v
-  sort-of v l = let q = o v l in let s = sort-in v l in omega arith
+  -- the code tells what a kind asks for
+
+  source-of : (kind v : ℕ) → v < T .counts .versions → sourceFits kind (code v % 2) ≡ sourceFits kind (sort v)
+  source-of kind v l = ap (sourceFits kind) (bit-of v l) ∙ source-same kind (sort v) (declaredSort (sort v)) (declared-subject (sort v))
+
+  target-of : (kind v : ℕ) → v < T .counts .versions → targetFits kind (code v % 2) ≡ targetFits kind (sort v)
+  target-of kind v l = ap (targetFits kind) (bit-of v l) ∙ target-same kind (sort v) (declaredSort (sort v)) (declared-subject (sort v))
 
   owner-of : (v w : ℕ) → v < T .counts .versions → w < T .counts .versions → code v ≡ code w → ownerOf T v ≡ ownerOf T w
-  owner-of v w l m e = let p = o v l in let q = o w m in let s = sort-in v l in let t = sort-in w m in omega arith
+  owner-of v w l m e = let p = o v l in let q = o w m in let s = declared-low (sort v) in let t = declared-low (sort w) in omega arith
 
   module _ (k : ℕ) where
     abbrev from : ℕ
@@ -86,8 +92,8 @@ module _ (T : Trail) (owners : List ℕ) (f : (x : ℕ) → x < T .counts .entit
             apart = λ e. eqb-false _ _ (not-true _ (r 1)) (o from l ∙ ap (codeOf (T .entity)) e ∙ sym (o to m));
             kind-low = leb-true _ _ (s 0);
             kind-high = leb-true _ _ (q 2);
-            source-fits = rw (sort-of from l) at (s 1);
-            target-fits = rw (sort-of to m) at (s 2);
+            source-fits = sym (source-of (T .edge k .kind) from l) ∙ s 1;
+            target-fits = sym (target-of (T .edge k .kind) to m) ∙ s 2;
             time-low = omega arith;
             time-last = let a = leb-true (T .edge k .time) _ (r 4) in let b = leb-true (T .edge k .last) _ (r 5) in omega arith;
             count-low = leb-true _ _ (r 3);
@@ -107,7 +113,7 @@ module _ (T : Trail) (owners : List ℕ) (f : (x : ℕ) → x < T .counts .entit
         also lt-ltb _ _ m
         also le-leb _ _ (h .kind-high)
         also hold-every
-        (hold-every (le-leb _ _ (h .kind-low) also rw (sort-of from l) (h .source-fits) also rw (sort-of to m) (h .target-fits) also done)
+        (hold-every (le-leb _ _ (h .kind-low) also (source-of (T .edge k .kind) from l ∙ h .source-fits) also (target-of (T .edge k .kind) to m ∙ h .target-fits) also done)
         also not-true-of _ (ne-eqb _ _ (λ e. h .apart (owner-of from to l m e)))
         also lt-ltb _ _ after
         also le-leb _ _ (h .count-low)

@@ -10,7 +10,7 @@ use borrow.Author.Tests.{ne-eqb}
 use Rattle.rows.specs.declared.Counts.{Counts}
 use Rattle.rows.specs.declared.EdgeRow.{EdgeRow}
 use Rattle.rows.specs.Rows.{edgeAt}
-use Rattle.rules.specs.Sound.{allBelow, timeBefore, countSum}
+use Rattle.rules.specs.Sound.{allBelow, timeBefore, countSum, sumBelow}
 use Rattle.soundness.specs.Parts.{codedEdge, codedTest}
 use Rattle.soundness.proofs.All.{all-stop, all-next, all-end}
 use Rattle.soundness.proofs.Tests.{and-false, and-next}
@@ -44,9 +44,9 @@ module _ (c : Counts) (owners ds : List ℕ) (k : ℕ) (e : EdgeRow) (q : e ≡ 
 
 -- The sum of the counts
 
-pub sum-next : (ds : List ℕ) (k : ℕ) (e : EdgeRow) → e ≡ edgeAt ds k → (s : ℕ) → s ≡ countSum (edgeAt ds) k → s + e .count ≡ countSum (edgeAt ds) (k + 1)
-unfolding countSum
-sum-next ds k e q s p = rw (add-one k, p, q)
+pub sum-read : (ds : List ℕ) (k : ℕ) (e : EdgeRow) → e ≡ edgeAt ds k → (s : ℕ) → s ≡ countSum (edgeAt ds) k → s + e .count ≡ countSum (edgeAt ds) (k + 1)
+unfolding sumBelow
+sum-read ds k e q s p = rw (add-one k, p, q)
 
 pub edges-end : (p : ℕ → Bool) (E : ℕ → EdgeRow) (n k s a : ℕ) → allBelow p k ≡ true → s ≡ countSum E k → k ≤ n → n ≤ k
     → eqb s a ≡ (allBelow p n && eqb (countSum E n) a)

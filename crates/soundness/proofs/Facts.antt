@@ -27,7 +27,7 @@ module _ (T : Trail) where
   unfolding entityTest soundEntity
   entity-facts x h =
       let q = every-at _ h in
-      record { sort-is = q 0; latest-in = ltb-true _ _ (q 1); latest-owner = eqb-true _ _ (q 2) }
+      record { sort-in = leb-true _ _ (q 0); latest-in = ltb-true _ _ (q 1); latest-owner = eqb-true _ _ (q 2) }
 
   module _ (k : ℕ) where
     abbrev previous : ℕ

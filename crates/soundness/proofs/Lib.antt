@@ -1,6 +1,7 @@
 -- Laws of tests, and of the loops that make them
 pub mod All
 pub mod Tests
+pub mod Sorts
 pub mod Versions
 pub mod Edges
 -- Sound tables are those whose rows have the facts
@@ -20,6 +21,7 @@ pub mod Kept
 pub mod Repeated
 pub mod Widened
 pub mod Renewed
+pub mod Signed
 pub mod Step
 -- The same on lent tables, and a batch
 pub mod Written
@@ -28,6 +30,8 @@ pub mod Decoded
 pub mod BatchStep
 -- What a batch leaves as it was lent
 pub mod Past
+pub mod SignedStay
 pub mod RowsStay
+pub mod Counted
 pub mod FrameStep
 pub mod Frame

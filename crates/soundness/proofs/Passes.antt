@@ -20,7 +20,7 @@ counts-pass cap c f =
 module _ (T : Trail) where
   pub entity-passes : (x : ℕ) → EntityFacts T x → entityTest T x ≡ true
   unfolding entityTest soundEntity
-  entity-passes x f = hold-every (f .sort-is also lt-ltb _ _ (f .latest-in) also eq-eqb _ _ (f .latest-owner) also done)
+  entity-passes x f = hold-every (le-leb _ _ (f .sort-in) also lt-ltb _ _ (f .latest-in) also eq-eqb _ _ (f .latest-owner) also done)
 
   module _ (k : ℕ) where
     previous-passes : VersionFacts T k → soundPrevious k (T .version k) (T .version (T .version k .previous .0)) ≡ true

@@ -1,5 +1,5 @@
 -- What the tests of counts, entities and versions give to those after them.
-use Prim.Native.Nat.{ℕ, _≤_, _<_}
+use Prim.Native.Nat.{ℕ, _≤_}
 use native.Mathlib.Omega.{arith}
 use mathlib.Core.Path.{_≡_}
 use mathlib.Core.Bool.{Bool, true, false, not, _&&_}
@@ -13,11 +13,10 @@ use Rattle.rows.specs.Capacity.{mostVersions, edgeCapacity}
 use Rattle.rows.proofs.Capacity.{entities-most, versions-most}
 use Rattle.rules.specs.Trail.{Trail, tables, capacityOf, trailOf}
 use Rattle.rules.specs.Sound.{allBelow, countSum, soundCounts, entityTest, versionTest, edgeTest, isSound}
-use Rattle.soundness.specs.Facts.{CountFacts, EntityFacts, VersionFacts}
+use Rattle.soundness.specs.Facts.{CountFacts}
 use Rattle.soundness.specs.Parts.{Owners, RowsReady, VersionsReady, codedTest}
-use Rattle.soundness.proofs.All.{all-at}
-use Rattle.soundness.proofs.Tests.{sort-low, true-by-not}
-use Rattle.soundness.proofs.Facts.{counts-facts, entity-facts, version-facts}
+use Rattle.soundness.proofs.Tests.{true-by-not}
+use Rattle.soundness.proofs.Facts.{counts-facts}
 use Rattle.soundness.proofs.Coded.{coded-is}
 
 -- the counts and the entities passed, as r and s say, and m codes have room
@@ -41,9 +40,6 @@ module _ (c : Counts) (es vs ds owners₀ : List ℕ) (f : RowsReady c (tables e
   counts-in : CountFacts (capacityOf (tables es vs ds)) c
   counts-in = counts-facts _ c (f .counts)
 
-  entity-at : (x : ℕ) → x < c .entities → EntityFacts T x
-  entity-at x l = entity-facts T x (all-at _ _ (f .entities) x l)
-
   pub edges-in : c .edges ≤ edgeCapacity ds
   edges-in = counts-in .edges-in
 
@@ -51,13 +47,9 @@ module _ (c : Counts) (es vs ds owners₀ : List ℕ) (f : RowsReady c (tables e
   versions-ready =
       let e = entities-most es in
       let i = counts-in .entities-in in
-      record { entities-in = omega arith; versions-in = counts-in .versions-in; sorts = λ x l. sort-low _ (entity-at x l .sort-is); room = f .room }
+      record { entities-in = omega arith; versions-in = counts-in .versions-in; room = f .room }
 
   module _ (t : Bool) (owners : List ℕ) (v : (t ≡ allBelow (versionTest (trailOf c (tables es vs []))) (c .versions)) × (t ≡ true → Owners (trailOf c (tables es vs [])) (c .versions) owners)) (t-true : not t ≡ false) where
-    version-at : (k : ℕ) → k < c .versions → VersionFacts T k
-    unfolding versionTest
-    version-at k l = version-facts T k (all-at _ _ (true-by-not _ t (v .0) t-true) k l)
-
     pub codes-in : length owners ≡ length owners₀ → c .versions ≤ length owners
     codes-in l = let h = f .room in omega arith
 
@@ -66,5 +58,5 @@ module _ (c : Counts) (es vs ds owners₀ : List ℕ) (f : RowsReady c (tables e
     unfolding isSound entityTest versionTest
     coded-sound u q =
         let d : allBelow (codedTest c owners (edgeAt ds)) (c .edges) ≡ allBelow (edgeTest T) (c .edges)
-        = λ i. allBelow (λ k. coded-is T owners entity-at version-at (v .1 (not-false t t-true)) k i) (c .edges) in
+        = λ i. allBelow (λ k. coded-is T owners (v .1 (not-false t t-true)) k i) (c .edges) in
         rw (f .counts, f .entities, true-by-not _ t (v .0) t-true, ← d) q

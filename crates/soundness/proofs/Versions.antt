@@ -41,9 +41,6 @@ module _ (c : Counts) (es vs : List ℕ) (k : ℕ) (v : VersionRow) (r : Bool) (
     pub owner-low : v .entity .0 < mostEntities
     owner-low = let l = owner-in in let m = f .entities-in in omega arith
 
-    pub owner-sort : entityAt es (v .entity .0) .sort ≤ 1
-    owner-sort = f .sorts _ owner-in
-
   module _ (q : v ≡ versionAt vs k) where
     test-is : r ≡ versionTest T k
     unfolding versionTest

@@ -1,11 +1,11 @@
--- What sound tables (document 01, "Tables"; document 02, 2.1) give for each row.
+-- What sound tables (document 01, "Tables"; document 02, 2.1 and 2.4) give for each row.
 use Prim.Native.Nat.{ℕ, suc, _≤_, _<_}
 use mathlib.Core.Path.{_≡_}
-use mathlib.Core.Bool.{true, _||_}
+use mathlib.Core.Bool.{true}
 use Rattle.rows.specs.declared.Counts.{Counts}
 use Rattle.record.specs.Layout.{mostKind}
 use Rattle.rules.specs.Trail.{Capacity, Trail, none, mostAccepted, latestOf, ownerOf}
-use Rattle.rules.specs.Sound.{isObject, isSubject, sourceFits, targetFits, countSum}
+use Rattle.rules.specs.Sound.{signedSort, sourceFits, targetFits, countSum}
 
 pub record CountFacts (cap : Capacity) (c : Counts) : Type 0 where
   pub entities-in : c .entities ≤ cap .entities
@@ -15,7 +15,7 @@ pub record CountFacts (cap : Capacity) (c : Counts) : Type 0 where
   pub accepted-most : c .accepted ≤ mostAccepted
 
 pub record EntityFacts (T : Trail) (x : ℕ) : Type 0 where
-  pub sort-is : (isObject (T .entity x .sort) || isSubject (T .entity x .sort)) ≡ true
+  pub sort-in : T .entity x .sort ≤ signedSort
   pub latest-in : latestOf T x < T .counts .versions
   pub latest-owner : ownerOf T (latestOf T x) ≡ x
 

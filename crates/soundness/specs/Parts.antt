@@ -1,22 +1,30 @@
 -- Parts of the test of sound tables that single functions compute. Edges are tested by the codes of the entities at their ends.
 use Prim.Native.Nat.{ℕ, _+_, _*_, _%_, _≤_, _<_}
 use mathlib.Core.Path.{_≡_}
-use mathlib.Core.Bool.{Bool, true, not}
+use mathlib.Core.Bool.{Bool, true, not, _||_, cond}
 use mathlib.Core.List.{List, [], _∷_}
 use lib.ListN.{length, getD}
 use lib.Dec.{eqb, leb, ltb}
 use Rattle.rows.specs.declared.Counts.{Counts}
 use Rattle.rows.specs.declared.EntityRow.{EntityRow}
 use Rattle.rows.specs.declared.EdgeRow.{EdgeRow}
-use Rattle.rows.specs.Rows.{entityAt}
 use Rattle.rows.specs.Capacity.{mostEntities, versionCapacity}
-use Rattle.record.specs.Layout.{mostKind}
+use Rattle.record.specs.Layout.{mostKind, kindNo}
+use Rattle.record.specs.declared.Kind.the-variants.{Write, Fork}
 use Rattle.rules.specs.Trail.{Tables, Trail, capacityOf, trailOf, ownerOf}
 use Rattle.rules.specs.Sound.{every, allBelow, soundCounts, entityTest, sourceFits, targetFits, mayFollow, timeBefore}
+use Rattle.rules.specs.KeptLog.{declaredSort}
 
--- the code of entity x: twice its number, and its sort
+-- the sort, as declared, that a kind asks for: of its source, and of its target
+abbrev pub sourceSort : ℕ → ℕ
+sourceSort kind = cond (eqb kind (kindNo Write) || eqb kind (kindNo Fork)) 1 0
+
+abbrev pub targetSort : ℕ → ℕ
+targetSort kind = cond (eqb kind (kindNo Write)) 0 1
+
+-- the code of entity x: twice its number, and 1 if it is a subject
 abbrev pub codeOf : (ℕ → EntityRow) → ℕ → ℕ
-codeOf E x = 2 * x + E x .sort
+codeOf E x = 2 * x + declaredSort (E x .sort)
 
 -- for each of the first n versions, the code of its entity
 abbrev pub Owners : Trail → ℕ → List ℕ → Type 0
@@ -32,10 +40,9 @@ pub record RowsReady (c : Counts) (t : Tables) (owners : List ℕ) : Type 0 wher
 pub record VersionsReady (c : Counts) (entities versions owners : List ℕ) : Type 0 where
   pub entities-in : c .entities ≤ mostEntities
   pub versions-in : c .versions ≤ versionCapacity versions
-  pub sorts : (x : ℕ) → x < c .entities → entityAt entities x .sort ≤ 1
   pub room : c .versions ≤ length owners
 
--- kind is one of an event, and asks for a source and a target of these sorts
+-- kind is one of an event, and asks for a source and a target that are declared with these sorts
 unfoldable pub sortsFit : ℕ → ℕ → ℕ → Bool
 sortsFit kind s t = every (leb 1 kind ∷ sourceFits kind s ∷ targetFits kind t ∷ [])
 

@@ -88,7 +88,7 @@ pub extern "C" fn slt_forward(
     )
 }
 
-// Writes the kept log: an event file of the declarations and the kept events.
+// Writes the kept log: an event file of the declarations, the kept events and the signatures.
 #[no_mangle]
 pub extern "C" fn slt_kept_log(
     counts: Counts,

@@ -2,8 +2,10 @@
 
 use crate::capacity::{TableLengths, EDGE_ROW, ENTITY_ROW, MOST_ACCEPTED, VERSION_ROW};
 use crate::file_builder::FileBuilder;
+use crate::file_version::FileVersion;
 use crate::generate::batch_faults::BatchFault;
 use crate::generate::edge_counts::raise_accepted;
+use crate::generate::files::any_version;
 use crate::generate::grown_tables::grown_tables;
 use crate::generate::lengths::{lend_anew, roomy_lengths};
 use crate::generate::records::RecordSource;
@@ -11,10 +13,15 @@ use crate::random::Random;
 use crate::record::{Event, Kind, Record, Sort};
 use crate::tables::Tables;
 
+/// One in this many bases has no records: a batch before took them in.
+const BATCH_BEFORE_ONE_IN: usize = 4;
+
 /// A grown trail and records it takes in. After them `object`, `subject` and
 /// `written` are the last entities, and the last event is the write from
-/// `subject` to `written`, the only event of the three.
+/// `subject` to `written`, the only event of the three. Where the fault asks
+/// for it, both objects are signed then, and `subject` reads `object`.
 pub struct Base {
+    pub version: FileVersion,
     pub tables: Tables,
     pub records: Vec<Record>,
     pub after: Tables,
@@ -28,8 +35,9 @@ impl Base {
         let grown = grown_for(random, fault);
         let tables = lend_anew(random, &grown, roomy_lengths(grown.counts));
         let mut source = RecordSource::after_tables(&tables);
+        let version = fault.version(random);
         let count = random.below(6);
-        let mut records = source.records(random, count);
+        let mut records = source.records(random, version, count);
         for sort in [Sort::Object, Sort::Subject, Sort::Object] {
             records.push(source.declaration_of(sort));
         }
@@ -37,13 +45,40 @@ impl Base {
         let (object, subject) = (written - 2, written - 1);
         let write = source.event_of(random, Kind::Write, subject, written);
         records.push(Record::Event(write));
-        Base {
-            after: taken_in(&tables, &records),
+        if fault.signs() {
+            records.extend([object, written].map(|entity| source.signature_of(entity)));
+        }
+        if fault.reads_signed() {
+            let read = source.event_of(random, Kind::Read, object, subject);
+            records.push(Record::Event(read));
+        }
+        let base = Base {
+            version,
+            after: taken_in(&tables, version, &records),
             tables,
             records,
             object,
             subject,
             written,
+        };
+        match random.one_in(BATCH_BEFORE_ONE_IN) {
+            true => base.with_batch_before(random, fault),
+            false => base,
+        }
+    }
+
+    /// The records are taken in by a batch before; an event or a declaration
+    /// at fault may then stand in a file of either version.
+    fn with_batch_before(self, random: &mut Random, fault: BatchFault) -> Base {
+        let version = match fault.is_signature() {
+            true => self.version,
+            false => any_version(random),
+        };
+        Base {
+            version,
+            tables: self.after.clone(),
+            records: Vec::new(),
+            ..self
         }
     }
 
@@ -97,9 +132,10 @@ fn grown_for(random: &mut Random, fault: BatchFault) -> Tables {
     }
 }
 
-fn taken_in(tables: &Tables, records: &[Record]) -> Tables {
+fn taken_in(tables: &Tables, version: FileVersion, records: &[Record]) -> Tables {
     let mut after = tables.clone();
-    let answer = after.batch(&FileBuilder::new().records(records).bytes());
+    let file = FileBuilder::of_version(version).records(records);
+    let answer = after.batch(&file.bytes());
     assert_eq!((answer.refusal, answer.taken), (0, records.len() as u32));
     after
 }

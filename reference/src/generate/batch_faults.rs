@@ -18,19 +18,35 @@ pub enum BatchFault {
     DeclarationZeroField,
     KindAndUndeclared,
     SortAndNotNext,
+    SignatureInVersion1,
+    SignatureZeroField,
+    SignatureZeroFieldAndUndeclared,
     SourceUndeclared,
     TargetUndeclared,
     BothUndeclared,
     UndeclaredToItself,
+    UndeclaredIntoSigned,
+    SignatureUndeclared,
     NumberDeclaredBefore,
     NumberTooHigh,
     NotNextAndNoEntityRow,
     SourceIsTarget,
     SourceIsTargetOfWrongSort,
+    SourceIsTargetSigned,
     SourceSort,
     TargetSort,
     BothSorts,
     WrongSortAndTime,
+    SourceSortIntoSigned,
+    TargetSortIntoSigned,
+    SignatureOnSubject,
+    IntoSigned,
+    RepeatIntoSigned,
+    IntoSignedAndTime,
+    IntoSignedAndAcceptedFull,
+    IntoSignedAndNoEdgeRow,
+    IntoSignedAndNoVersionRow,
+    SignedTwice,
     TimeSame,
     TimeLower,
     TimeZero,
@@ -47,7 +63,7 @@ pub enum BatchFault {
 }
 
 impl BatchFault {
-    pub const ALL: [BatchFault; 40] = [
+    pub const ALL: [BatchFault; 56] = [
         BatchFault::EmptyFile,
         BatchFault::ShortHeader,
         BatchFault::Mark,
@@ -62,19 +78,35 @@ impl BatchFault {
         BatchFault::DeclarationZeroField,
         BatchFault::KindAndUndeclared,
         BatchFault::SortAndNotNext,
+        BatchFault::SignatureInVersion1,
+        BatchFault::SignatureZeroField,
+        BatchFault::SignatureZeroFieldAndUndeclared,
         BatchFault::SourceUndeclared,
         BatchFault::TargetUndeclared,
         BatchFault::BothUndeclared,
         BatchFault::UndeclaredToItself,
+        BatchFault::UndeclaredIntoSigned,
+        BatchFault::SignatureUndeclared,
         BatchFault::NumberDeclaredBefore,
         BatchFault::NumberTooHigh,
         BatchFault::NotNextAndNoEntityRow,
         BatchFault::SourceIsTarget,
         BatchFault::SourceIsTargetOfWrongSort,
+        BatchFault::SourceIsTargetSigned,
         BatchFault::SourceSort,
         BatchFault::TargetSort,
         BatchFault::BothSorts,
         BatchFault::WrongSortAndTime,
+        BatchFault::SourceSortIntoSigned,
+        BatchFault::TargetSortIntoSigned,
+        BatchFault::SignatureOnSubject,
+        BatchFault::IntoSigned,
+        BatchFault::RepeatIntoSigned,
+        BatchFault::IntoSignedAndTime,
+        BatchFault::IntoSignedAndAcceptedFull,
+        BatchFault::IntoSignedAndNoEdgeRow,
+        BatchFault::IntoSignedAndNoVersionRow,
+        BatchFault::SignedTwice,
         BatchFault::TimeSame,
         BatchFault::TimeLower,
         BatchFault::TimeZero,
@@ -106,19 +138,29 @@ impl BatchFault {
             | BatchFault::EventZeroField
             | BatchFault::DeclarationZeroField
             | BatchFault::KindAndUndeclared
-            | BatchFault::SortAndNotNext => 4,
+            | BatchFault::SortAndNotNext
+            | BatchFault::SignatureInVersion1
+            | BatchFault::SignatureZeroField
+            | BatchFault::SignatureZeroFieldAndUndeclared => 4,
             BatchFault::SourceUndeclared
             | BatchFault::TargetUndeclared
             | BatchFault::BothUndeclared
-            | BatchFault::UndeclaredToItself => 5,
+            | BatchFault::UndeclaredToItself
+            | BatchFault::UndeclaredIntoSigned
+            | BatchFault::SignatureUndeclared => 5,
             BatchFault::NumberDeclaredBefore
             | BatchFault::NumberTooHigh
             | BatchFault::NotNextAndNoEntityRow => 6,
-            BatchFault::SourceIsTarget | BatchFault::SourceIsTargetOfWrongSort => 7,
+            BatchFault::SourceIsTarget
+            | BatchFault::SourceIsTargetOfWrongSort
+            | BatchFault::SourceIsTargetSigned => 7,
             BatchFault::SourceSort
             | BatchFault::TargetSort
             | BatchFault::BothSorts
-            | BatchFault::WrongSortAndTime => 8,
+            | BatchFault::WrongSortAndTime
+            | BatchFault::SourceSortIntoSigned
+            | BatchFault::TargetSortIntoSigned
+            | BatchFault::SignatureOnSubject => 8,
             BatchFault::TimeSame
             | BatchFault::TimeLower
             | BatchFault::TimeZero
@@ -129,48 +171,13 @@ impl BatchFault {
             BatchFault::AcceptedFull
             | BatchFault::AcceptedFullAtRepeat
             | BatchFault::AcceptedFullAndNoEdgeRow => 13,
+            BatchFault::IntoSigned
+            | BatchFault::RepeatIntoSigned
+            | BatchFault::IntoSignedAndTime
+            | BatchFault::IntoSignedAndAcceptedFull
+            | BatchFault::IntoSignedAndNoEdgeRow
+            | BatchFault::IntoSignedAndNoVersionRow
+            | BatchFault::SignedTwice => 17,
         }
-    }
-
-    /// Whether no entity row is to be left.
-    pub fn fills_entities(self) -> bool {
-        matches!(
-            self,
-            BatchFault::NotNextAndNoEntityRow
-                | BatchFault::NoEntityRow
-                | BatchFault::NoEntityRowAndNoVersionRow
-        )
-    }
-
-    /// Whether no version row is to be left.
-    pub fn fills_versions(self) -> bool {
-        matches!(
-            self,
-            BatchFault::NoEntityRowAndNoVersionRow
-                | BatchFault::NoVersionRowForDeclaration
-                | BatchFault::NoVersionRowForEvent
-                | BatchFault::NoEdgeRowAndNoVersionRow
-        )
-    }
-
-    /// Whether no edge row is to be left.
-    pub fn fills_edges(self) -> bool {
-        matches!(
-            self,
-            BatchFault::NoEdgeRow
-                | BatchFault::NoEdgeRowAndNoVersionRow
-                | BatchFault::AcceptedFullAndNoEdgeRow
-        )
-    }
-
-    /// Whether accepted is to be 1,000,000.
-    pub fn fills_accepted(self) -> bool {
-        matches!(
-            self,
-            BatchFault::TimeAndAcceptedFull
-                | BatchFault::AcceptedFull
-                | BatchFault::AcceptedFullAtRepeat
-                | BatchFault::AcceptedFullAndNoEdgeRow
-        )
     }
 }

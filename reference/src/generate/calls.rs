@@ -8,6 +8,7 @@ use crate::generate::files::any_file;
 use crate::generate::lengths::{odd_lengths, roomy_lengths, tiny_lengths};
 use crate::generate::records::RecordSource;
 use crate::generate::traces::any_trace;
+use crate::kept_log::log_length;
 use crate::random::Random;
 use crate::tables::Tables;
 
@@ -55,7 +56,7 @@ fn lengths_of_call(random: &mut Random, counts: Counts) -> TableLengths {
 pub fn any_call(random: &mut Random, tables: &Tables) -> Call {
     match random.below(4) {
         0 => Call::KeptLog {
-            out: output(random, tables.counts),
+            out: output(random, tables),
         },
         1 => batch_on(random, tables),
         _ => any_trace(random, tables.counts),
@@ -79,12 +80,12 @@ pub fn batch_on(random: &mut Random, tables: &Tables) -> Call {
 
 /// An output for the kept log, now and then a byte or more short. Counts above
 /// the caps get a small output.
-fn output(random: &mut Random, counts: Counts) -> Vec<u8> {
-    let (entities, edges) = (counts.entities as usize, counts.edges as usize);
-    if entities > MOST_ENTITIES || edges > MOST_EDGES {
+fn output(random: &mut Random, tables: &Tables) -> Vec<u8> {
+    let counts = tables.counts;
+    if counts.entities as usize > MOST_ENTITIES || counts.edges as usize > MOST_EDGES {
         return random.bytes(100);
     }
-    let log = 8 + 12 * (entities + edges);
+    let log = log_length(tables.view());
     let length = match random.below(6) {
         0 => log - 1,
         1 => random.below(log),

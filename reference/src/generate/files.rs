@@ -1,28 +1,45 @@
 //! Event files: good, careless, damaged, cut short.
 
 use crate::file_builder::FileBuilder;
+use crate::file_version::FileVersion;
 use crate::generate::records::RecordSource;
 use crate::random::Random;
-use crate::record::{encode, RECORD_BYTES};
+use crate::record::{encode, Record, Signature, RECORD_BYTES};
 
-/// A file whose records are all taken in if rows are left.
-pub fn event_file(random: &mut Random, source: &mut RecordSource, records: usize) -> Vec<u8> {
-    let records = source.records(random, records);
-    FileBuilder::new().records(&records).bytes()
+/// Either version.
+pub fn any_version(random: &mut Random) -> FileVersion {
+    FileVersion::ALL[random.below(2)]
 }
 
-/// A file in which now and then a record is wrong in one field or in several.
+/// A file of either version whose records are all taken in if rows are left.
+pub fn event_file(random: &mut Random, source: &mut RecordSource, records: usize) -> Vec<u8> {
+    let version = any_version(random);
+    let records = source.records(random, version, records);
+    FileBuilder::of_version(version).records(&records).bytes()
+}
+
+/// A file in which now and then a record is wrong in one field or in several,
+/// or is a signature of any entity, in a version 1 file too.
 pub fn careless_file(random: &mut Random, source: &mut RecordSource, records: usize) -> Vec<u8> {
-    let mut file = FileBuilder::new();
+    let version = any_version(random);
+    let mut file = FileBuilder::of_version(version);
     for _ in 0..records {
         let before = source.clone();
-        let mut bytes = encode(source.record(random));
-        if random.one_in(8) {
-            spoil(random, &before, &mut bytes);
+        let mut bytes = encode(source.record(random, version));
+        match random.below(24) {
+            0..=2 => spoil(random, &before, &mut bytes),
+            3 => bytes = encode(any_signature(random, &before)),
+            _ => {}
         }
         file = file.raw(&bytes);
     }
     file.bytes()
+}
+
+/// A signature of an object or a subject, signed or not, declared or not.
+fn any_signature(random: &mut Random, source: &RecordSource) -> Record {
+    let entity = random.below(source.sorts.len() + 2) as u16;
+    Record::Signature(Signature { entity })
 }
 
 /// Gives each field of the record a chance of a careless value.

@@ -3,21 +3,61 @@
 use crate::file_builder::FileBuilder;
 use crate::random::Random;
 use crate::record::{Declaration, Event, Kind, Sort};
+use std::collections::BTreeSet;
 
 /// A file that declares this many entities, an object and a subject by turns,
 /// and then has this many events. A kind named twice comes twice as often.
 pub fn long_file(random: &mut Random, entities: u16, kinds: &[Kind], events: usize) -> Vec<u8> {
-    let mut file = FileBuilder::new();
-    for number in 0..entities {
-        let sort = Sort::ALL[usize::from(number % 2)];
-        file = file.declaration(Declaration { number, sort });
-    }
+    let mut file = declarations(FileBuilder::new(), entities);
     let mut time = 0;
     for _ in 0..events {
         time += random.between(1, 3);
         file = file.event(long_file_event(random, entities, kinds, time));
     }
     file.bytes()
+}
+
+/// A version 2 file like a long file of all kinds, in which one object after
+/// the other is signed, the first alone excepted.
+pub fn long_signed_file(random: &mut Random, entities: u16, events: usize) -> Vec<u8> {
+    let mut file = declarations(FileBuilder::version_2(), entities);
+    let mut objects: Vec<u16> = (2..entities).step_by(2).collect();
+    random.shuffle(&mut objects);
+    let one_in = events / (objects.len() + 1) + 1;
+    let (mut signed, mut time) = (BTreeSet::new(), 0);
+    for _ in 0..events {
+        if let (true, Some(object)) = (random.one_in(one_in), objects.last()) {
+            file = file.sign(*object);
+            signed.extend(objects.pop());
+        }
+        time += random.between(1, 3);
+        file = file.event(event_into_unsigned(random, entities, &signed, time));
+    }
+    file.bytes()
+}
+
+/// An event of any kind that goes into none of the signed objects.
+fn event_into_unsigned(
+    random: &mut Random,
+    entities: u16,
+    signed: &BTreeSet<u16>,
+    time: u32,
+) -> Event {
+    loop {
+        let event = long_file_event(random, entities, &Kind::ALL, time);
+        if !signed.contains(&event.target) {
+            return event;
+        }
+    }
+}
+
+fn declarations(file: FileBuilder, entities: u16) -> FileBuilder {
+    let declaration = |number: u16| Declaration {
+        number,
+        sort: Sort::ALL[usize::from(number % 2)],
+    };
+    let numbers = 0..entities;
+    numbers.fold(file, |file, number| file.declaration(declaration(number)))
 }
 
 /// An event of one of the kinds, between any two entities of its sorts.

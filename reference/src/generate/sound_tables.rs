@@ -4,6 +4,7 @@ use crate::capacity::MOST_ACCEPTED;
 use crate::generate::edge_counts::give_counts;
 use crate::generate::lengths::{lend_anew, odd_lengths};
 use crate::generate::shapes::Shape;
+use crate::generate::signed_tables::sign_some;
 use crate::random::Random;
 use crate::record::{Kind, Sort};
 use crate::rows::{EdgeRow, EntityRow, VersionRow, NO_VERSION};
@@ -19,7 +20,7 @@ pub fn sound_tables_of_shape(random: &mut Random, shape: Shape) -> Tables {
     }
 }
 
-/// Any sound tables of a few rows, at odd lengths.
+/// Any sound tables of a few rows, signed ones among them, at odd lengths.
 pub fn sound_tables(random: &mut Random) -> Tables {
     let last = last_time(random);
     let sorts = sorts(random);
@@ -28,7 +29,8 @@ pub fn sound_tables(random: &mut Random) -> Tables {
     let mut edges = edge_rows(random, &sorts, &versions, last);
     let accepted = accepted_count(random, edges.len());
     give_counts(random, &mut edges, accepted, last);
-    let tables = Tables::of_rows(&entities, &versions, &edges, accepted, last);
+    let mut tables = Tables::of_rows(&entities, &versions, &edges, accepted, last);
+    sign_some(random, &mut tables);
     let lengths = odd_lengths(random, tables.counts);
     lend_anew(random, &tables, lengths)
 }

@@ -110,7 +110,7 @@ fn break_capacity(
 fn break_entity(random: &mut Random, tables: &mut Tables, clause: Clause) -> Option<()> {
     let entity = random.below(some_row(tables.counts.entities)?) * ENTITY_ROW;
     match clause {
-        Clause::SortIsZeroOrOne => tables.entities[entity] = number_from(random, 2),
+        Clause::SortIsZeroToTwo => tables.entities[entity] = number_from(random, 3),
         Clause::LatestExists => {
             tables.entities[entity + 1] = number_from(random, tables.counts.versions)
         }

@@ -38,7 +38,7 @@ fn holds(clause: Clause, view: TableView) -> bool {
         | Clause::EdgesWithinCapacity
         | Clause::EdgesAtMostAccepted
         | Clause::AcceptedAtMostMillion => counts_hold(clause, view),
-        Clause::SortIsZeroOrOne | Clause::LatestExists | Clause::LatestIsOfThatEntity => {
+        Clause::SortIsZeroToTwo | Clause::LatestExists | Clause::LatestIsOfThatEntity => {
             (0..view.counts.entities).all(|number| entity_holds(clause, view, number))
         }
         Clause::VersionEntityExists
@@ -86,7 +86,7 @@ fn counts_hold(clause: Clause, view: TableView) -> bool {
 fn entity_holds(clause: Clause, view: TableView, number: u32) -> bool {
     let entity = view.entity(number);
     match clause {
-        Clause::SortIsZeroOrOne => entity.sort == 0 || entity.sort == 1,
+        Clause::SortIsZeroToTwo => entity.sort <= 2,
         Clause::LatestExists => entity.latest < view.counts.versions,
         Clause::LatestIsOfThatEntity => match version(view, entity.latest) {
             Some(latest) => latest.entity == number,
@@ -158,11 +158,12 @@ fn joins_two_entities(view: TableView, edge: EdgeRow) -> bool {
     }
 }
 
-/// Whether the version's entity is of this sort; true if either is missing.
+/// Whether the version's entity is of this sort, a signed object being an
+/// object; true if either is missing.
 fn has_sort(view: TableView, number: u32, sort: Sort) -> bool {
     match version(view, number) {
         Some(version) if version.entity < view.counts.entities => {
-            view.entity(version.entity).sort == sort.number()
+            view.entity(version.entity).declared_sort() == Some(sort)
         }
         _ => true,
     }

@@ -2,7 +2,7 @@
 
 use reference::causal::{leading_to, reached_from};
 use reference::generate::RecordSource;
-use reference::{Event, Random, Record};
+use reference::{Event, FileVersion, Random, Record};
 use std::collections::BTreeSet;
 
 /// Every causal path of at least one event.
@@ -29,7 +29,7 @@ fn random_events(random: &mut Random, count: usize) -> Vec<Event> {
     let mut source = RecordSource::fresh();
     let mut events = Vec::new();
     while events.len() < count {
-        if let Record::Event(event) = source.record(random) {
+        if let Record::Event(event) = source.record(random, FileVersion::One) {
             events.push(event);
         }
     }

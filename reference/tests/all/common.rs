@@ -62,9 +62,17 @@ fn buffers(tables: &Tables) -> (Vec<u8>, Vec<u8>) {
     (work, marks)
 }
 
+/// The numbers of the signed objects.
+pub fn signed(tables: &Tables) -> Vec<u32> {
+    let numbers = 0..tables.counts.entities;
+    let is_signed = |number: &u32| tables.view().entity(*number).sort == 2;
+    numbers.filter(is_signed).collect()
+}
+
 /// The kept log of the tables.
 pub fn log_of(tables: &Tables) -> Vec<u8> {
-    let mut out = vec![0; 8 + 12 * (tables.counts.entities + tables.counts.edges) as usize];
+    let rows = (tables.counts.entities + tables.counts.edges) as usize;
+    let mut out = vec![0; 8 + 12 * (rows + signed(tables).len())];
     let answer = tables.kept_log(&mut out);
     assert_eq!((answer.refusal, answer.length as usize), (0, out.len()));
     out

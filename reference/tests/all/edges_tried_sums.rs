@@ -30,7 +30,7 @@ fn the_answer_has_16_bytes() {
 #[test]
 fn a_refused_batch_gives_that_of_the_records_before() {
     let mut random = Random::new(48);
-    let mut some = [0; 17];
+    let mut some = [0; 18];
     for fault in BatchFault::ALL {
         for _ in 0..30 {
             let case = refused_batch(&mut random, fault);
@@ -44,7 +44,8 @@ fn a_refused_batch_gives_that_of_the_records_before() {
             some[refused.refusal as usize] += u32::from(refused.tried > 0);
         }
     }
-    assert!(some[3..=13].iter().all(|count| *count > 10), "{some:?}");
+    let with_records = some[3..=13].iter().chain(&some[17..]);
+    assert!(with_records.clone().all(|count| *count > 10), "{some:?}");
     for clause in Clause::ALL {
         let mut tables = unsound_tables(&mut random, clause);
         let answer = tables.batch(&FileBuilder::new().bytes());
@@ -56,11 +57,13 @@ fn a_refused_batch_gives_that_of_the_records_before() {
 /// reason that an event can have, and counts none.
 #[test]
 fn a_refused_event_counts_none() {
-    let read = || FileBuilder::new().read(3, 1, 8);
+    let read = || FileBuilder::version_2().read(3, 1, 8);
     let (roomy, no_version, no_edge) = ([9, 9], [5, 9], [9, 4]);
     let refused = [
         (read().raw(&[1, 0, 0]), roomy, 3),
         (read().raw(&[6; 12]), roomy, 4),
+        (read().sign(4), roomy, 5),
+        (read().sign(1), roomy, 8),
         (read().read(0, 4, 9), roomy, 5),
         (read().read(1, 1, 9), roomy, 7),
         (read().read(1, 0, 9), roomy, 8),
@@ -78,6 +81,8 @@ fn a_refused_event_counts_none() {
         tables.edges.truncate(edges * EDGE_ROW);
         assert_eq!(answer_of(&mut tables, file), (refusal, 1, 2));
     }
+    let file = read().sign(2).write(1, 2, 9);
+    assert_eq!(answer_of(&mut worked_tables(), file), (17, 2, 2));
     let mut tables = worked_tables();
     tables.counts.accepted = 999_999;
     set_count(&mut tables, 3, 999_993);

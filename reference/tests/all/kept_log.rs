@@ -1,6 +1,6 @@
 //! The kept log taken in again.
 
-use crate::common::{backward, forward, fresh, log_of, times};
+use crate::common::{backward, forward, fresh, log_of, signed, times};
 use reference::generate::{any_members, grown_tables, sound_tables};
 use reference::rows::{EdgeRow, EntityRow, VersionRow};
 use reference::{Kind, Random, Sort, Tables};
@@ -9,15 +9,20 @@ fn taken_in_again(tables: &Tables) -> Tables {
     let mut again = fresh(200);
     let answer = again.batch(&log_of(tables));
     let records = tables.counts.entities + tables.counts.edges;
-    assert_eq!((answer.refusal, answer.taken), (0, records));
+    let signatures = signed(tables);
+    let taken = records + signatures.len() as u32;
+    assert_eq!((answer.refusal, answer.taken), (0, taken));
+    assert_eq!(signed(&again), signatures);
     again
 }
 
 #[test]
 fn same_entities_and_kept_events() {
     let mut random = Random::new(10);
+    let mut signatures = 0;
     for _ in 0..200 {
         let tables = grown_tables(&mut random, 60);
+        signatures += signed(&tables).len();
         let again = taken_in_again(&tables);
         assert_eq!(again.counts.entities, tables.counts.entities);
         assert_eq!(again.counts.versions, tables.counts.versions);
@@ -25,6 +30,7 @@ fn same_entities_and_kept_events() {
         assert_eq!(again.counts.accepted, tables.counts.edges);
         assert_eq!(log_of(&again), log_of(&tables));
     }
+    assert!(signatures > 200, "{signatures}");
 }
 
 #[test]

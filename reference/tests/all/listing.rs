@@ -1,6 +1,6 @@
 //! The text of the listing program.
 
-use reference::{listing, worked_declarations, worked_file, FileBuilder};
+use reference::{listing, worked_declarations, worked_file, worked_signed_file, FileBuilder};
 
 fn text(bytes: &[u8]) -> String {
     String::from_utf8(listing(bytes)).unwrap()
@@ -26,7 +26,7 @@ fn first_event_at_time_0() {
 fn refused_before_any_record() {
     assert_eq!(text(&[]), "trail 0 0 0 0 0\nrefused 1 0\n");
     let mut file = worked_file();
-    file[3] = 2;
+    file[3] = 3;
     assert_eq!(text(&file), "trail 0 0 0 0 0\nrefused 2 0\n");
 }
 
@@ -34,6 +34,18 @@ fn refused_before_any_record() {
 fn header_alone() {
     let header = FileBuilder::new().bytes();
     assert_eq!(text(&header), "trail 0 0 0 0 0\n");
+}
+
+/// A signature prints no line of its own.
+#[test]
+fn signed_report() {
+    let file = worked_signed_file();
+    assert_eq!(text(&file.clone().bytes()), text(&worked_file()));
+    let expected = text(&worked_file()) + "refused 17 13\n";
+    assert_eq!(text(&file.clone().write(1, 2, 8).bytes()), expected);
+    assert_eq!(text(&file.sign(2).bytes()), expected);
+    let in_version_1 = worked_declarations().sign(2).bytes();
+    assert_eq!(text(&in_version_1), "trail 4 4 0 0 0\nrefused 4 5\n");
 }
 
 #[test]

@@ -41,6 +41,8 @@ impl Both {
             assert_eq!(written, marks);
         }
         assert_eq!(self.tables.counts, self.list.counts());
+        let sorts = self.tables.view().entity_rows().map(|row| row.sort);
+        assert!(sorts.eq(self.list.row_sorts()));
         if let (Call::Batch { file }, Answer::Batch(answer)) = (&lent.call, answer) {
             self.events += events_among(file, answer.taken);
         }
@@ -101,13 +103,16 @@ fn assert_forward_agrees(both: &Both, members: &[u32], time: u32) {
 
 #[test]
 fn answers_and_counts_agree_after_every_call() {
-    let (mut accepted, mut dropped) = (0, 0);
+    let (mut accepted, mut dropped, mut signed) = (0, 0, 0);
     for seed in 0..400 {
-        let counts = after_list(seed).tables.counts;
+        let both = after_list(seed);
+        let counts = both.tables.counts;
         accepted += counts.accepted;
         dropped += counts.accepted - counts.edges;
+        signed += both.list.signed.len();
     }
     assert!(accepted > 4_000 && dropped > 1_000, "{accepted} {dropped}");
+    assert!(signed > 200, "{signed}");
 }
 
 #[test]
@@ -135,7 +140,7 @@ fn traces_of_lists_of_members_agree() {
 
 #[test]
 fn traces_in_a_list_are_refused_only_with_5_or_14() {
-    let mut seen = [0; 17];
+    let mut seen = [0; 18];
     for seed in 1_000..1_200 {
         let mut random = Random::new(seed);
         let calls = call_list(&mut random, 12);

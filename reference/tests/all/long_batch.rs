@@ -2,7 +2,8 @@
 
 use reference::generate::calls::batch_on;
 use reference::generate::{
-    grown_tables, long_file, refused_batch, sound_tables, unsound_tables_by_one_number, BatchFault,
+    grown_tables, long_file, long_signed_file, refused_batch, sound_tables,
+    unsound_tables_by_one_number, BatchFault,
 };
 use reference::{long_batch, Call, Kind, Random, TableLengths, Tables};
 
@@ -45,5 +46,6 @@ fn on_long_files() {
         let file = long_file(&mut random, 50, &Kind::ALL, 2_000);
         let tables = Tables::fresh(TableLengths::of_rows(50, rows, 1_500));
         assert_agree(&tables, &file);
+        assert_agree(&tables, &long_signed_file(&mut random, 50, 2_000));
     }
 }

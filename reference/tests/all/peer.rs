@@ -2,7 +2,8 @@
 
 use reference::generate::calls::{any_call, batch_on};
 use reference::generate::{
-    call_list, grown_tables, lend_anew, long_file, refused_batch, sound_tables, BatchFault,
+    call_list, grown_tables, lend_anew, long_file, long_signed_file, refused_batch, sound_tables,
+    BatchFault,
 };
 use reference::peer::Trail;
 use reference::sound::is_sound;
@@ -49,7 +50,7 @@ fn assert_rows_agree(tables: &Tables, peer: &Trail) {
 
 #[test]
 fn on_lists_of_calls() {
-    let mut seen = [0; 17];
+    let mut seen = [0; 18];
     for seed in 0..600 {
         let mut random = Random::new(seed);
         let mut tables = Tables::fresh(TableLengths::of_rows(0, 0, 0));
@@ -61,7 +62,7 @@ fn on_lists_of_calls() {
             seen[answer.refusal() as usize] += 1;
         }
     }
-    for refusal in [0, 1, 3, 4, 5, 6, 7, 8, 9, 11, 12, 14] {
+    for refusal in [0, 1, 3, 4, 5, 6, 7, 8, 9, 11, 12, 14, 17] {
         assert!(seen[refusal] > 0, "never refused with {refusal}");
     }
 }
@@ -107,10 +108,13 @@ fn on_long_files_and_when_cleared() {
     let mut peer = Trail::new();
     for rows in [500, 3_000, 20_000] {
         let file = long_file(&mut random, 100, &Kind::ALL, 20_000);
-        let mut tables = Tables::fresh(TableLengths::of_rows(100, rows, 15_000));
-        peer.clear();
-        let answer = peer.batch(tables.view().capacity(), &file);
-        assert_eq!(long_batch(&mut tables, &file), answer);
-        assert_rows_agree(&tables, &peer);
+        let signed = long_signed_file(&mut random, 100, 20_000);
+        for file in [file, signed] {
+            let mut tables = Tables::fresh(TableLengths::of_rows(100, rows, 15_000));
+            peer.clear();
+            let answer = peer.batch(tables.view().capacity(), &file);
+            assert_eq!(long_batch(&mut tables, &file), answer);
+            assert_rows_agree(&tables, &peer);
+        }
     }
 }

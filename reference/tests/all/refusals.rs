@@ -11,7 +11,7 @@ use reference::{
 };
 
 /// The numbers each call can be refused with.
-const BATCH: [u32; 14] = [1, 2, 3, 4, 5, 6, 7, 8, 9, 10, 11, 12, 13, 16];
+const BATCH: [u32; 15] = [1, 2, 3, 4, 5, 6, 7, 8, 9, 10, 11, 12, 13, 16, 17];
 const TRACE: [u32; 3] = [5, 14, 16];
 const LOG: [u32; 2] = [15, 16];
 
@@ -48,10 +48,10 @@ fn a_refused_batch_shows_the_records_before() {
 /// How often each call was refused with each number.
 #[derive(Default)]
 struct Seen {
-    batch: [u32; 17],
-    backward: [u32; 17],
-    forward: [u32; 17],
-    log: [u32; 17],
+    batch: [u32; 18],
+    backward: [u32; 18],
+    forward: [u32; 18],
+    log: [u32; 18],
 }
 
 impl Seen {
@@ -67,8 +67,8 @@ impl Seen {
 }
 
 /// Asserts that exactly these numbers were seen, and 0 too.
-fn assert_seen(seen: [u32; 17], numbers: &[u32]) {
-    for number in 0..=16 {
+fn assert_seen(seen: [u32; 18], numbers: &[u32]) {
+    for number in 0..=17 {
         let can_occur = number == 0 || numbers.contains(&number);
         assert_eq!(seen[number as usize] > 0, can_occur, "number {number}");
     }

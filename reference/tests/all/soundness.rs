@@ -2,11 +2,11 @@
 
 use crate::common::{broken_by, fresh, worked_tables};
 use reference::generate::{
-    every_length, lend_anew, sound_tables, unsound_tables, unsound_tables_by_one_number,
+    every_length, lend_anew, sign_all, sound_tables, unsound_tables, unsound_tables_by_one_number,
 };
 use reference::rows::{EntityRow, VersionRow, NO_VERSION};
 use reference::sound::{broken_clauses, is_sound, Clause};
-use reference::{Counts, Random, TableLengths, Tables};
+use reference::{Counts, FileBuilder, Random, TableLengths, Tables};
 
 type Change = fn(&mut Tables);
 
@@ -40,6 +40,49 @@ fn numbers_that_may_change() {
     assert_eq!(broken_by(|tables| tables.versions[17] = 1), []);
     assert_eq!(broken_by(|tables| tables.edges[15] = 3), []);
     assert_eq!(broken_by(|tables| tables.edges[0] = 3), []);
+    assert_eq!(broken_by(|tables| tables.entities[0] = 2), []);
+    assert_eq!(broken_by(|tables| tables.entities[4] = 2), []);
+}
+
+/// Entity 2 of the worked trail is written, entity 3 read; entity 4 is added
+/// without an edge.
+#[test]
+fn a_sort_is_0_to_2() {
+    let with_sort = |sort: u32| {
+        broken_by(|tables| {
+            assert_eq!(
+                tables.batch(&FileBuilder::new().object(4).bytes()).refusal,
+                0
+            );
+            tables.entities[8] = sort;
+        })
+    };
+    for sort in 0..=2 {
+        assert_eq!(with_sort(sort), []);
+    }
+    for sort in [3, 4, 1 << 31, u32::MAX] {
+        assert_eq!(with_sort(sort), [Clause::SortIsZeroToTwo]);
+    }
+}
+
+/// A signed object is one, and a subject cannot be signed if edges join it.
+#[test]
+fn edges_of_signed_objects() {
+    let all = broken_by(sign_all);
+    assert_eq!(all, []);
+    let subject = broken_by(|tables| tables.entities[2] = 2);
+    let broken = [Clause::SourceHasSortOfKind, Clause::TargetHasSortOfKind];
+    assert_eq!(subject, broken);
+    let fork_from_signed = broken_by(|tables| {
+        tables.entities[0] = 2;
+        tables.edges[2] = 4;
+    });
+    assert_eq!(fork_from_signed, [Clause::SourceHasSortOfKind]);
+    let fork_into_signed = broken_by(|tables| {
+        tables.entities[4] = 2;
+        tables.edges[8] = 4;
+    });
+    assert_eq!(fork_into_signed, [Clause::TargetHasSortOfKind]);
 }
 
 #[test]

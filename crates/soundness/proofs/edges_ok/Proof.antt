@@ -7,10 +7,11 @@ use Rattle.rows.specs.Rows.{edgeAt}
 use Rattle.rows.specs.Capacity.{edgeCapacity}
 use Rattle.rules.specs.Sound.{allBelow, timeBefore, countSum}
 use Rattle.soundness.specs.Parts.{codedTest}
-use Rattle.soundness.proofs.Edges.{timeBefore-zero, time-next, edges-stop, edges-next, sum-next, edges-end}
-use Rattle.soundness.proofs.Sums.{countSum-zero}
+use Rattle.soundness.proofs.Edges.{timeBefore-zero, time-next, edges-stop, edges-next, sum-read, edges-end}
+use Rattle.soundness.proofs.Sums.{sum-zero}
 use borrow.Author.Needs.{needs}
 use native.Mathlib.Omega.{arith}
+use Rattle.rows.specs.declared.EdgeRow.{EdgeRow}
 use Rattle.soundness.proofs.edges_ok.Statement.{statement}
 use Rattle.soundness.proofs.edges_ok.Tie as tie
 
@@ -24,7 +25,7 @@ abbrev μ-loop : tie.MeasureT-loop
 
 loop-holds : tie.Need-loop-holds Inv-loop μ-loop
 unfolding allBelow
-loop-holds c = (omega arith, timeBefore-zero _, refl, countSum-zero _, omega arith)
+loop-holds c = (omega arith, timeBefore-zero _, refl, sum-zero (λ (r : EdgeRow). r .count) _, omega arith)
 
 edge-in-requires : tie.Need-edge-in-requires Inv-loop μ-loop
 edge-in-requires c κs = search needs
@@ -46,7 +47,7 @@ loop-less : tie.Need-loop-less Inv-loop μ-loop
 loop-less c = search needs
 
 loop-again : tie.Need-loop-again Inv-loop μ-loop
-loop-again c = (omega arith, search time-next, search edges-next, search sum-next, omega arith)
+loop-again c = (omega arith, search time-next, search edges-next, search sum-read, omega arith)
 
 returns : tie.Need-returns Inv-loop μ-loop
 returns c = search edges-stop

@@ -1,20 +1,17 @@
--- The kinds are told apart in the order in which `sourceFits` does.
-use Rattle.rules.specs.Sound.{sourceFits, isObject, isSubject}
-use Rattle.soundness.proofs.Tests.{tests}
+-- From what the two calls ensure.
+use borrow.Author.Needs.{needs}
+use Rattle.soundness.proofs.Sorts.{source-by}
 use Rattle.soundness.proofs.source_fits.Statement.{statement}
 use Rattle.soundness.proofs.source_fits.Tie as tie
 
+declared-sort-requires : tie.Need-declared-sort-requires
+declared-sort-requires c κs = search needs
+
+source-sort-requires : tie.Need-source-sort-requires
+source-sort-requires c κs = search needs
+
 returns : tie.Need-returns
-unfolding sourceFits isObject isSubject
-returns c = search tests depth 16
-
-returns-2 : tie.Need-returns-2
-unfolding sourceFits isObject isSubject
-returns-2 c = search tests depth 16
-
-returns-3 : tie.Need-returns-3
-unfolding sourceFits isObject isSubject
-returns-3 c = search tests depth 16
+returns c = search source-by
 
 pub source-fits-spec : {M : Type 1} → statement M
-source-fits-spec = tie.close (tie.spec returns returns-2 returns-3)
+source-fits-spec = tie.close (tie.spec declared-sort-requires source-sort-requires returns)

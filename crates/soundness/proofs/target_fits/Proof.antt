@@ -1,16 +1,17 @@
--- The kinds are told apart in the order in which `targetFits` does.
-use Rattle.rules.specs.Sound.{targetFits, isObject, isSubject}
-use Rattle.soundness.proofs.Tests.{tests}
+-- From what the two calls ensure.
+use borrow.Author.Needs.{needs}
+use Rattle.soundness.proofs.Sorts.{target-by}
 use Rattle.soundness.proofs.target_fits.Statement.{statement}
 use Rattle.soundness.proofs.target_fits.Tie as tie
 
-returns : tie.Need-returns
-unfolding targetFits isObject isSubject
-returns c = search tests depth 16
+declared-sort-requires : tie.Need-declared-sort-requires
+declared-sort-requires c κs = search needs
 
-returns-2 : tie.Need-returns-2
-unfolding targetFits isObject isSubject
-returns-2 c = search tests depth 16
+target-sort-requires : tie.Need-target-sort-requires
+target-sort-requires c κs = search needs
+
+returns : tie.Need-returns
+returns c = search target-by
 
 pub target-fits-spec : {M : Type 1} → statement M
-target-fits-spec = tie.close (tie.spec returns returns-2)
+target-fits-spec = tie.close (tie.spec declared-sort-requires target-sort-requires returns)

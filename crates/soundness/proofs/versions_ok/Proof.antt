@@ -8,7 +8,7 @@ use Rattle.rules.specs.Trail.{trailOf, tables}
 use Rattle.rules.specs.Sound.{allBelow, versionTest}
 use Rattle.soundness.specs.Parts.{Owners}
 use Rattle.soundness.proofs.All.{all-end}
-use Rattle.soundness.proofs.Versions.{owner-low, owner-sort, versions-stop, versions-next, owners-next, owners-end}
+use Rattle.soundness.proofs.Versions.{owner-low, versions-stop, versions-next, owners-next, owners-end}
 use borrow.Author.Needs.{needs}
 use native.Mathlib.Omega.{arith}
 use Rattle.soundness.proofs.versions_ok.Statement.{statement}
@@ -34,7 +34,7 @@ cast-i : tie.Need-cast-i Inv-loop μ-loop
 cast-i c = search needs
 
 code-requires : tie.Need-code-requires Inv-loop μ-loop
-code-requires c κs = (search owner-low, search owner-sort)
+code-requires c κs = search owner-low
 
 mul-owners : tie.Need-mul-owners Inv-loop μ-loop
 mul-owners c = search needs

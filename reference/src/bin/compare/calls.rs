@@ -5,6 +5,7 @@ use crate::comparison::{Compared, Comparison};
 use crate::made::Made;
 use reference::generate::calls::batch_on;
 use reference::generate::{any_backward, any_forward, any_members};
+use reference::kept_log::log_length;
 use reference::{Call, Counts, Random, Tables};
 use std::collections::BTreeSet;
 
@@ -65,11 +66,6 @@ pub fn kept_log(length: usize) -> Call {
     Call::KeptLog {
         out: vec![FILL; length],
     }
-}
-
-/// The length of the kept log.
-pub fn log_length(counts: Counts) -> usize {
-    8 + 12 * (counts.entities as usize + counts.edges as usize)
 }
 
 /// Every two entities, the lower first or last, and all at once.
@@ -135,7 +131,7 @@ impl Comparison {
 
     /// The kept log into outputs of the right length, one short, one longer.
     pub fn kept_logs(&mut self, tables: &Tables) -> Compared {
-        let length = log_length(tables.counts);
+        let length = log_length(tables.view());
         for length in [length, length - 1, length + 1] {
             self.call(tables, kept_log(length))?;
         }
@@ -148,7 +144,7 @@ impl Comparison {
         self.call(tables, batch_on(random, tables))?;
         self.call(tables, any_backward(random, tables.counts))?;
         self.call(tables, any_forward(random, tables.counts))?;
-        let log = log_length(tables.counts).min(MOST_BYTES);
+        let log = log_length(tables.view()).min(MOST_BYTES);
         let length = random.below(4) + log - 1;
         self.call(tables, kept_log(length))?;
         Ok(())

@@ -6,7 +6,8 @@ use reference::capacity::{
 };
 use reference::generate::{
     all_members, count_all, declared_members, large_tables, lend_anew, long_file_event,
-    raise_accepted, set_count, tables_with_edges, tables_with_entities, tables_with_versions,
+    raise_accepted, set_count, signatures_of, tables_with_edges, tables_with_entities,
+    tables_with_versions,
 };
 use reference::{FileBuilder, Kind, Random, TableLengths, Tables};
 
@@ -62,7 +63,24 @@ fn at_cap(
     comparison.forward(tables, &all, last)?;
     comparison.forward(tables, &[all.as_slice(), &[entities]].concat(), last)?;
     comparison.kept_logs(tables)?;
-    comparison.each_call(random, tables)
+    comparison.each_call(random, tables)?;
+    signed_at_cap(comparison, random, tables, file)
+}
+
+/// All objects signed by one batch, which needs no row; then the file, which
+/// may hold events into them.
+fn signed_at_cap(
+    comparison: &mut Comparison,
+    random: &mut Random,
+    tables: &Tables,
+    file: &[u8],
+) -> Compared {
+    let mut signed = tables.clone();
+    comparison.batch(&mut signed, signatures_of(tables))?;
+    comparison.batch(&mut signed.clone(), file.to_vec())?;
+    comparison.batch(&mut signed.clone(), signatures_of(tables))?;
+    comparison.kept_logs(&signed)?;
+    comparison.each_call(random, &signed)
 }
 
 /// Accepted one below its cap, at it and above it.
@@ -77,6 +95,7 @@ pub fn accepted_cap(comparison: &mut Comparison, random: &mut Random) -> Compare
             comparison.batch(&mut tables.clone(), file)?;
         }
         let declaration = FileBuilder::new().object(6).bytes();
+        signed_at_cap(comparison, random, &tables, &declaration)?;
         comparison.batch(&mut tables.clone(), declaration)?;
         comparison.each_call(random, &tables)?;
     }
@@ -100,7 +119,8 @@ pub fn all_full(comparison: &mut Comparison, random: &mut Random) -> Compared {
     let declaration = FileBuilder::new().object(4_096).bytes();
     comparison.batch(&mut tables.clone(), declaration)?;
     let events = events_after(random, &tables, &Kind::ALL, 9);
-    comparison.batch(&mut tables.clone(), events)?;
+    comparison.batch(&mut tables.clone(), events.clone())?;
+    signed_at_cap(comparison, random, &tables, &events)?;
     spoilt_last_rows(comparison, random, &tables)?;
     spoilt_counts(comparison, random, &tables)
 }
@@ -112,7 +132,7 @@ fn lengths_past_caps() -> TableLengths {
 /// The last row of each table, not sound.
 fn spoilt_last_rows(comparison: &mut Comparison, random: &mut Random, tables: &Tables) -> Compared {
     let mut spoilt = tables.clone();
-    spoilt.entities[(MOST_ENTITIES - 1) * ENTITY_ROW] = 2;
+    spoilt.entities[(MOST_ENTITIES - 1) * ENTITY_ROW] = 3;
     comparison.each_call(random, &spoilt)?;
     let mut spoilt = tables.clone();
     spoilt.versions[(MOST_VERSIONS - 1) * VERSION_ROW] = MOST_ENTITIES as u32;

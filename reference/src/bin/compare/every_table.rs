@@ -1,5 +1,6 @@
 //! Every sound table of two entities, three versions and up to three edges
-//! with few values, counts of 1 and 2 among them, grown or not.
+//! with few values, signed objects and counts of 1 and 2 among them, grown or
+//! not.
 
 use crate::calls::small_lists;
 use crate::comparison::{Compared, Comparison};
@@ -11,6 +12,9 @@ use reference::{Kind, Random, Sort, Tables};
 
 const EDGES: u32 = 3;
 const LAST: u32 = 3;
+/// The sorts of the two entities. Two objects are left out, signed or not: no
+/// edge joins them.
+const SORTS: [[u32; 2]; 5] = [[1, 0], [0, 1], [1, 1], [1, 2], [2, 1]];
 
 /// The rows of the entities and of the versions.
 struct Rows {
@@ -22,6 +26,12 @@ impl Rows {
     fn with_edges(&self, edges: &[EdgeRow]) -> Tables {
         let accepted = edges.iter().map(|edge| edge.count).sum();
         Tables::of_rows(&self.entities, &self.versions, edges, accepted, LAST)
+    }
+
+    /// The sort of the entity; a signed object is an object.
+    fn sort(&self, entity: u32) -> Sort {
+        let row = self.entities[entity as usize];
+        row.declared_sort().expect("the sorts are 0 to 2")
     }
 }
 
@@ -97,15 +107,13 @@ fn every_version() -> Vec<VersionRow> {
     rows
 }
 
-/// Both sorts and both latest versions, two objects left out: no edge joins
-/// them.
+/// Both sorts and both latest versions.
 fn every_entities() -> impl Iterator<Item = [EntityRow; 2]> {
-    let entities = |number: u32| {
-        let row = |sort: u32, latest: u32| EntityRow { sort, latest };
-        let (sorts, latest) = (number / 9 + 1, number % 9);
-        [row(sorts % 2, latest / 3), row(sorts / 2, latest % 3)]
-    };
-    (0..27).map(entities)
+    let row = |sort: u32, latest: u32| EntityRow { sort, latest };
+    SORTS.into_iter().flat_map(move |[first, second]| {
+        let entities = move |latest: u32| [row(first, latest / 3), row(second, latest % 3)];
+        (0..9).map(entities)
+    })
 }
 
 /// An edge, its time yet open, for each two versions that one may join.
@@ -114,7 +122,7 @@ fn every_way(rows: &Rows) -> Vec<EdgeRow> {
     for from in 0..3 {
         for to in 0..3 {
             let (source, target) = (rows.versions[from].entity, rows.versions[to].entity);
-            let sorts = [source, target].map(|entity| rows.entities[entity as usize].sort);
+            let sorts = [source, target].map(|entity| rows.sort(entity));
             if let (true, Some(kind)) = (source != target, kind_of(sorts)) {
                 ways.push(EdgeRow::new(from as u32, to as u32, kind, 0));
             }
@@ -124,10 +132,9 @@ fn every_way(rows: &Rows) -> Vec<EdgeRow> {
 }
 
 /// A kind between entities of these sorts.
-fn kind_of(sorts: [u32; 2]) -> Option<Kind> {
-    let numbers = |(source, target): (Sort, Sort)| [source.number(), target.number()];
+fn kind_of([source, target]: [Sort; 2]) -> Option<Kind> {
     let mut kinds = Kind::ALL.into_iter();
-    kinds.find(|kind| numbers(kind.sorts()) == sorts)
+    kinds.find(|kind| kind.sorts() == (source, target))
 }
 
 /// All lists of up to three edges, at times from 1.

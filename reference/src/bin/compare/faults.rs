@@ -3,7 +3,8 @@
 use crate::comparison::{Compared, Comparison};
 use reference::generate::calls::batch_on;
 use reference::generate::{
-    grown_tables, large_tables, lend_anew, odd_lengths, refused_batch, sound_tables, BatchFault,
+    grown_tables, large_tables, lend_anew, odd_lengths, refused_batch, sign_some, sound_tables,
+    BatchFault,
 };
 use reference::{Random, Tables};
 
@@ -24,7 +25,8 @@ pub fn batch_faults(comparison: &mut Comparison, random: &mut Random) -> Compare
 
 /// Sound tables nobody grew, of some dozen rows.
 fn middle_sized(random: &mut Random) -> Tables {
-    let tables = large_tables(random, 8, 30, 60);
+    let mut tables = large_tables(random, 8, 30, 60);
+    sign_some(random, &mut tables);
     let lengths = odd_lengths(random, tables.counts);
     lend_anew(random, &tables, lengths)
 }

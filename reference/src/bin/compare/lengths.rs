@@ -1,11 +1,14 @@
 //! Tables of every length, buffers and outputs of every length near the one
 //! asked for, entities and times at their extremes.
 
-use crate::calls::{forward, kept_log, log_length, traces, BufferLengths};
+use crate::calls::{forward, kept_log, traces, BufferLengths};
 use crate::comparison::{Compared, Comparison};
 use crate::worked_trail::worked_tables;
 use reference::capacity::{EDGE_ROW, ENTITY_ROW, VERSION_ROW};
-use reference::generate::{every_length, grown_tables, lend_anew, roomy_lengths, sound_tables};
+use reference::generate::{
+    every_length, grown_tables, lend_anew, roomy_lengths, sign_all, sign_where, sound_tables,
+};
+use reference::kept_log::log_length;
 use reference::{Random, TableLengths, Tables};
 
 const TABLES: usize = 3;
@@ -25,7 +28,16 @@ fn some_tables(random: &mut Random) -> Vec<Tables> {
     let mut tables = vec![worked_tables()];
     tables.extend((0..TABLES).map(|_| grown_tables(random, 25)));
     tables.extend((0..TABLES).map(|_| sound_tables(random)));
+    tables.extend(signed_tables());
     tables
+}
+
+/// The worked trail with its report signed, and with all objects signed.
+fn signed_tables() -> [Tables; 2] {
+    let (mut report, mut all) = (worked_tables(), worked_tables());
+    sign_where(&mut report, |number| number == 2);
+    sign_all(&mut all);
+    [report, all]
 }
 
 fn every_lengths(tables: &Tables) -> Vec<TableLengths> {
@@ -119,7 +131,7 @@ fn buffer_lengths(tables: &Tables) -> Vec<BufferLengths> {
 
 /// Outputs of every length up to some bytes more than the log.
 fn extreme_outputs(comparison: &mut Comparison, tables: &Tables) -> Compared {
-    for length in 0..=log_length(tables.counts) + 13 {
+    for length in 0..=log_length(tables.view()) + 13 {
         comparison.call(tables, kept_log(length))?;
     }
     Ok(())

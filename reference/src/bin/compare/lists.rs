@@ -55,6 +55,16 @@ impl ListTrail {
         }
     }
 
+    /// How many records were taken in.
+    pub fn taken(&self) -> usize {
+        let FullList {
+            sorts,
+            signed,
+            accepted,
+        } = &self.list;
+        sorts.len() + signed.len() + accepted.len()
+    }
+
     /// Makes the call in tables lent anew.
     fn run(
         &mut self,
@@ -165,8 +175,11 @@ fn differ_from_list(
     marks: Vec<u8>,
 ) -> Option<String> {
     let counts = list.counts();
+    let sorts = made.tables.view().entity_rows().map(|row| row.sort);
+    let sorts: Vec<u32> = sorts.collect();
     differ("answer, by the full list", made.answer, answer)
         .or_else(|| differ("counts, by the full list", made.tables.counts, counts))
+        .or_else(|| differ("sorts, by the full list", sorts, list.row_sorts()))
         .or_else(|| differ("marks, by the full list", marks_of(&made.call), &marks))
 }
 

@@ -3,8 +3,9 @@
 use crate::comparison::{Compared, Comparison};
 use crate::round_trip::taken_in_again;
 use reference::capacity::{MOST_ACCEPTED, MOST_EDGES, MOST_ENTITIES, MOST_VERSIONS};
-use reference::file::HEADER;
-use reference::generate::{declared_members, long_file};
+use reference::file::HEADER_BYTES;
+use reference::generate::{declared_members, long_file, long_signed_file, signatures_of};
+use reference::record::RECORD_BYTES;
 use reference::{Kind, Random, TableLengths, Tables};
 
 const TRACES_AT_CAPS: usize = 2;
@@ -44,6 +45,10 @@ fn grown_to_cap(
     let answer = comparison.batch(&mut tables, file)?;
     assert_eq!(answer.refusal(), refusal, "the file is made for this cap");
     some_traces(comparison, random, &tables, TRACES_AT_CAPS)?;
+    taken_in_again(comparison, &tables, lengths)?;
+    let signatures = signatures_of(&tables);
+    let answer = comparison.batch(&mut tables, signatures)?;
+    assert_eq!(answer.refusal(), 0, "a signature needs no row");
     taken_in_again(comparison, &tables, lengths)
 }
 
@@ -65,34 +70,41 @@ fn some_traces(
     Ok(())
 }
 
-/// Files of some thousand records of many entities, taken in by parts.
+/// Files of some thousand records of many entities, without signatures and
+/// with, taken in by parts.
 pub fn long_files(comparison: &mut Comparison, random: &mut Random) -> Compared {
     for events in [300, 3_000] {
         let entities = random.between(8, 200) as u16;
         let file = long_file(random, entities, &Kind::ALL, events);
-        let lengths = TableLengths::of_rows(200, 2_500, 3_000);
-        let mut tables = Tables::fresh(lengths);
-        for part in parts(random, &file) {
-            comparison.batch(&mut tables, part)?;
-        }
-        some_traces(comparison, random, &tables, TRACES)?;
-        taken_in_again(comparison, &tables, lengths)?;
+        by_parts(comparison, random, &file)?;
+        let file = long_signed_file(random, entities, events);
+        by_parts(comparison, random, &file)?;
     }
     Ok(())
 }
 
+fn by_parts(comparison: &mut Comparison, random: &mut Random, file: &[u8]) -> Compared {
+    let lengths = TableLengths::of_rows(200, 2_500, 3_000);
+    let mut tables = Tables::fresh(lengths);
+    for part in parts(random, file) {
+        comparison.batch(&mut tables, part)?;
+    }
+    some_traces(comparison, random, &tables, TRACES)?;
+    taken_in_again(comparison, &tables, lengths)
+}
+
 /// The records of the file in three files.
 fn parts(random: &mut Random, file: &[u8]) -> Vec<Vec<u8>> {
-    let records = (file.len() - HEADER.len()) / 12;
-    let mut places = [random.below(records + 1), random.below(records + 1)];
+    let (header, records) = file.split_at(HEADER_BYTES);
+    let count = records.len() / RECORD_BYTES;
+    let mut places = [random.below(count + 1), random.below(count + 1)];
     places.sort_unstable();
-    let offset = |place: usize| HEADER.len() + 12 * place;
-    let [first, second] = places.map(offset);
+    let [first, second] = places.map(|place| place * RECORD_BYTES);
     let parts = [
-        &file[HEADER.len()..first],
-        &file[first..second],
-        &file[second..],
+        &records[..first],
+        &records[first..second],
+        &records[second..],
     ];
-    let with_header = |part: &[u8]| [HEADER.as_slice(), part].concat();
+    let with_header = |part: &[u8]| [header, part].concat();
     parts.map(with_header).to_vec()
 }

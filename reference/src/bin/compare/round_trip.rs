@@ -1,9 +1,10 @@
 //! The kept log of a trail grown from fresh, taken in again.
 
-use crate::calls::{kept_log, log_length};
+use crate::calls::kept_log;
 use crate::comparison::{Compared, Comparison};
 use crate::difference::{differ, differ_at, Difference};
-use reference::rows::EdgeRow;
+use reference::kept_log::log_length;
+use reference::rows::{EdgeRow, EntityRow};
 use reference::{Call, TableLengths, Tables};
 
 /// Writes the kept log and takes it into a fresh trail of these lengths.
@@ -13,7 +14,7 @@ pub fn taken_in_again(
     lengths: TableLengths,
 ) -> Compared {
     comparison.kept_logs(tables)?;
-    let made = comparison.call(tables, kept_log(log_length(tables.counts)))?;
+    let made = comparison.call(tables, kept_log(log_length(tables.view())))?;
     let Call::KeptLog { out: file } = made.call else {
         return Ok(());
     };
@@ -25,7 +26,8 @@ pub fn taken_in_again(
     }
 }
 
-/// The same edges are kept again, and each stands for one event.
+/// The same edges are kept again, each stands for one event, and the same
+/// objects are signed.
 fn differ_from_kept(tables: &Tables, again: &Tables) -> Option<String> {
     let numbers = |row: EdgeRow| [row.kind, row.time, row.count, row.last];
     let kept = |row: EdgeRow| [row.kind, row.time, 1, row.time];
@@ -33,4 +35,10 @@ fn differ_from_kept(tables: &Tables, again: &Tables) -> Option<String> {
     let expected: Vec<[u32; 4]> = tables.view().edge_rows().map(kept).collect();
     differ("edges kept again", regrown.len(), expected.len())
         .or_else(|| differ_at("edges kept again", &regrown, &expected))
+        .or_else(|| differ("sorts again", sorts(again), sorts(tables)))
+}
+
+fn sorts(tables: &Tables) -> Vec<u32> {
+    let sort = |row: EntityRow| row.sort;
+    tables.view().entity_rows().map(sort).collect()
 }

@@ -1,8 +1,8 @@
 //! The sections of the comparison.
 
 use crate::comparison::{Compared, Comparison};
-use crate::{caps, every_file, every_table, faults, lengths, lists, long_files};
-use crate::{members, tables, tried, worked_trail};
+use crate::{caps, every_file, every_list, every_table, faults, lengths, lists, long_files};
+use crate::{members, signatures, tables, tried, worked_trail};
 use reference::Random;
 
 /// One kind of calls, made from a seed.
@@ -12,7 +12,7 @@ pub struct Section {
 }
 
 /// Made in each round, each time from another seed.
-pub const EACH_ROUND: [Section; 11] = [
+pub const EACH_ROUND: [Section; 12] = [
     Section {
         name: "lists of calls, also by the full list",
         run: lists::lists_of_calls,
@@ -54,16 +54,28 @@ pub const EACH_ROUND: [Section; 11] = [
         run: tables::every_number,
     },
     Section {
+        name: "signatures with each field",
+        run: signatures::fields,
+    },
+    Section {
         name: "long files by parts",
         run: long_files::long_files,
     },
 ];
 
 /// Made once.
-pub const ONCE: [Section; 11] = [
+pub const ONCE: [Section; 14] = [
     Section {
         name: "the worked trail",
         run: worked_trail::worked_trail,
+    },
+    Section {
+        name: "files of each version",
+        run: signatures::versions,
+    },
+    Section {
+        name: "the worked trail with signatures, also by the full list",
+        run: signed_worked_trail,
     },
     Section {
         name: "traces of as many passes as versions",
@@ -79,7 +91,11 @@ pub const ONCE: [Section; 11] = [
     },
     Section {
         name: "every short list of events, also by the full list",
-        run: every_file::every_event_list,
+        run: every_list::every_event_list,
+    },
+    Section {
+        name: "every short list with signatures, also by the full list",
+        run: every_list::every_signed_list,
     },
     Section {
         name: "every sound table of few rows",
@@ -106,6 +122,11 @@ pub const ONCE: [Section; 11] = [
         run: long_files::grown_to_caps,
     },
 ];
+
+fn signed_worked_trail(comparison: &mut Comparison, random: &mut Random) -> Compared {
+    signatures::worked_trail(comparison, random)?;
+    signatures::kept_logs(comparison, random)
+}
 
 fn full_tables(comparison: &mut Comparison, random: &mut Random) -> Compared {
     caps::nearly_full(comparison, random)?;

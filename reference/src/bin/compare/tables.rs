@@ -4,8 +4,8 @@ use crate::comparison::{Compared, Comparison};
 use crate::worked_trail::worked_tables;
 use reference::capacity::{EDGE_ROW, ENTITY_ROW, VERSION_ROW};
 use reference::generate::{
-    grown_tables, large_tables, sound_tables, sound_tables_of_shape, tables_of_late_first_forks,
-    unsound_tables, unsound_tables_by_one_number, Shape,
+    grown_tables, large_tables, sign_some, sound_tables, sound_tables_of_shape,
+    tables_of_late_first_forks, unsound_tables, unsound_tables_by_one_number, Shape,
 };
 use reference::sound::Clause;
 use reference::{Counts, Random, Tables};
@@ -46,7 +46,9 @@ fn middle_sized(random: &mut Random) -> Tables {
     let entities = random.between(2, 20);
     let versions = entities + random.between(0, 40);
     let edges = random.between(0, 60);
-    large_tables(random, entities, versions, edges)
+    let mut tables = large_tables(random, entities, versions, edges);
+    sign_some(random, &mut tables);
+    tables
 }
 
 /// Traces that need as many passes over the edges as there are versions.

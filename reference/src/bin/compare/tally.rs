@@ -5,7 +5,7 @@ use reference::{Answer, BatchAnswer};
 use std::fmt;
 
 /// The refusal numbers and 0.
-const NUMBERS: usize = 17;
+const NUMBERS: usize = 18;
 
 /// A call with the numbers it can give.
 struct CallNumbers {
@@ -16,7 +16,7 @@ struct CallNumbers {
 const CALLS: [CallNumbers; 4] = [
     CallNumbers {
         name: "batch",
-        numbers: &[0, 1, 2, 3, 4, 5, 6, 7, 8, 9, 10, 11, 12, 13, 16],
+        numbers: &[0, 1, 2, 3, 4, 5, 6, 7, 8, 9, 10, 11, 12, 13, 16, 17],
     },
     CallNumbers {
         name: "backward",
@@ -33,7 +33,7 @@ const CALLS: [CallNumbers; 4] = [
 ];
 
 /// A batch refused with another number tries no edge.
-const MAY_HAVE_TRIED: [u32; 12] = [0, 3, 4, 5, 6, 7, 8, 9, 10, 11, 12, 13];
+const MAY_HAVE_TRIED: [u32; 13] = [0, 3, 4, 5, 6, 7, 8, 9, 10, 11, 12, 13, 17];
 
 #[derive(Default)]
 pub struct Tally {

@@ -1,9 +1,11 @@
 //! The files the listing program is run on.
 
 use reference::file::HEADER_BYTES;
-use reference::generate::{any_file, careless_file, damaged_file, long_file, RecordSource};
+use reference::generate::{
+    any_file, careless_file, damaged_file, long_file, long_signed_file, RecordSource,
+};
 use reference::listing::MOST_BYTES;
-use reference::{worked_file, worked_file_from, FileBuilder, Kind, Random};
+use reference::{worked_file, worked_file_from, worked_signed_file, FileBuilder, Kind, Random};
 
 const ANY: usize = 250;
 const CARELESS: usize = 150;
@@ -16,6 +18,8 @@ pub fn files(random: &mut Random) -> Vec<Vec<u8>> {
     files.extend(cuts(&worked_file()));
     files.push(worked_file_from(0));
     files.extend(damaged_headers(&worked_file()));
+    files.extend(damaged_headers(&worked_signed_file().bytes()));
+    files.extend(signed_files());
     files.extend(any_files(random));
     files.extend(longest_files(random));
     files.extend(files_too_long(random));
@@ -33,13 +37,30 @@ fn cuts(file: &[u8]) -> Vec<Vec<u8>> {
 fn damaged_headers(file: &[u8]) -> Vec<Vec<u8>> {
     let mut files = Vec::new();
     for place in 0..HEADER_BYTES {
-        for other in [1, 2, 0x80] {
+        for other in [1, 2, 3, 0x80] {
             let mut damaged = file.to_vec();
             damaged[place] ^= other;
             files.push(damaged);
         }
     }
     files
+}
+
+/// The worked trail with its report signed, then records into and out of it.
+fn signed_files() -> Vec<Vec<u8>> {
+    let signed = worked_signed_file();
+    let files = [
+        signed.clone(),
+        signed.clone().sign(2),
+        signed.clone().sign(0).sign(3).read(3, 1, 8),
+        signed.clone().sign(1),
+        signed.clone().sign(4),
+        signed.clone().write(1, 2, 8),
+        signed.clone().write(1, 2, 7),
+        signed.clone().write(1, 0, 8).read(2, 1, 9),
+        signed.raw(&[6, 0, 3, 0, 0, 0, 0, 0, 1, 0, 0, 0]),
+    ];
+    files.map(FileBuilder::bytes).to_vec()
 }
 
 /// Good, careless, damaged and cut files.
@@ -56,13 +77,18 @@ fn any_files(random: &mut Random) -> Vec<Vec<u8>> {
     files
 }
 
-/// Files of 2,730 records, as they are, damaged and cut.
+/// Files of 2,730 records, without signatures and with, as they are, damaged
+/// and cut.
 fn longest_files(random: &mut Random) -> Vec<Vec<u8>> {
     let mut files = vec![declarations(MOST_RECORDS).bytes()];
-    for _ in 0..LONGEST {
+    for number in 0..LONGEST {
         let entities = random.between(4, 60) as u16;
         let events = usize::from(MOST_RECORDS - entities);
-        let file = long_file(random, entities, &Kind::ALL, events);
+        let mut file = match number % 2 {
+            0 => long_file(random, entities, &Kind::ALL, events),
+            _ => long_signed_file(random, entities, events),
+        };
+        file.truncate(MOST_BYTES);
         files.push(damaged_file(random, &file));
         files.push(file[..MOST_BYTES - 1 - random.below(24)].to_vec());
         files.push(file);

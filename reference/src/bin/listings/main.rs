@@ -19,7 +19,7 @@ const DEFAULT_SEED: u64 = 1;
 const PIECES_ONE_IN: usize = 4;
 /// With 2,730 rows in each table no file of 32,768 bytes is refused for want
 /// of a row.
-const ENDINGS: [&str; 11] = [
+const ENDINGS: [&str; 12] = [
     "too long",
     "taken in",
     "refused 1",
@@ -31,6 +31,7 @@ const ENDINGS: [&str; 11] = [
     "refused 7",
     "refused 8",
     "refused 9",
+    "refused 17",
 ];
 
 fn main() -> ExitCode {
