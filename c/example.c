@@ -14,27 +14,27 @@
 /* The header; then per record: kind, sort, entity or source, target, 0, time, each number little-endian. */
 static const uint8_t file[] = {
     0x53, 0x4C, 0x54, 1, 0, 0, 0, 0,
-    0, 0, 0, 0, 0, 0, 0, 0, 0, 0, 0, 0, /* 0 object, the study */
-    0, 1, 1, 0, 0, 0, 0, 0, 0, 0, 0, 0, /* 1 subject, the stager */
-    0, 0, 2, 0, 0, 0, 0, 0, 0, 0, 0, 0, /* 2 object, the report */
-    0, 0, 3, 0, 0, 0, 0, 0, 0, 0, 0, 0, /* 3 object, the montage */
-    1, 0, 0, 0, 1, 0, 0, 0, 1, 0, 0, 0, /* time 1: read 0 to 1 */
-    2, 0, 1, 0, 2, 0, 0, 0, 2, 0, 0, 0, /* time 2: write 1 to 2 */
-    1, 0, 0, 0, 1, 0, 0, 0, 3, 0, 0, 0, /* time 3: read 0 to 1 */
-    2, 0, 1, 0, 2, 0, 0, 0, 4, 0, 0, 0, /* time 4: write 1 to 2 */
-    1, 0, 3, 0, 1, 0, 0, 0, 5, 0, 0, 0, /* time 5: read 3 to 1 */
-    2, 0, 1, 0, 2, 0, 0, 0, 6, 0, 0, 0, /* time 6: write 1 to 2 */
-    1, 0, 3, 0, 1, 0, 0, 0, 7, 0, 0, 0, /* time 7: read 3 to 1 */
+    SLT_DECLARATION, SLT_OBJECT, 0, 0, 0, 0, 0, 0, 0, 0, 0, 0, /* 0 object, the study */
+    SLT_DECLARATION, SLT_SUBJECT, 1, 0, 0, 0, 0, 0, 0, 0, 0, 0, /* 1 subject, the stager */
+    SLT_DECLARATION, SLT_OBJECT, 2, 0, 0, 0, 0, 0, 0, 0, 0, 0, /* 2 object, the report */
+    SLT_DECLARATION, SLT_OBJECT, 3, 0, 0, 0, 0, 0, 0, 0, 0, 0, /* 3 object, the montage */
+    SLT_READ, 0, 0, 0, 1, 0, 0, 0, 1, 0, 0, 0, /* time 1: read 0 to 1 */
+    SLT_WRITE, 0, 1, 0, 2, 0, 0, 0, 2, 0, 0, 0, /* time 2: write 1 to 2 */
+    SLT_READ, 0, 0, 0, 1, 0, 0, 0, 3, 0, 0, 0, /* time 3: read 0 to 1 */
+    SLT_WRITE, 0, 1, 0, 2, 0, 0, 0, 4, 0, 0, 0, /* time 4: write 1 to 2 */
+    SLT_READ, 0, 3, 0, 1, 0, 0, 0, 5, 0, 0, 0, /* time 5: read 3 to 1 */
+    SLT_WRITE, 0, 1, 0, 2, 0, 0, 0, 6, 0, 0, 0, /* time 6: write 1 to 2 */
+    SLT_READ, 0, 3, 0, 1, 0, 0, 0, 7, 0, 0, 0, /* time 7: read 3 to 1 */
 };
 
 /* A file of version 2, which may hold signatures; and one more write, in a file of version 1. */
 static const uint8_t signature[] = {
     0x53, 0x4C, 0x54, 2, 0, 0, 0, 0,
-    6, 0, 2, 0, 0, 0, 0, 0, 0, 0, 0, 0, /* the report is signed */
+    SLT_SIGNATURE, 0, 2, 0, 0, 0, 0, 0, 0, 0, 0, 0, /* the report is signed */
 };
 static const uint8_t late_write[] = {
     0x53, 0x4C, 0x54, 1, 0, 0, 0, 0,
-    2, 0, 1, 0, 2, 0, 0, 0, 8, 0, 0, 0, /* time 8: write 1 to 2 */
+    SLT_WRITE, 0, 1, 0, 2, 0, 0, 0, 8, 0, 0, 0, /* time 8: write 1 to 2 */
 };
 
 /* What a caller keeps of a trail. */
@@ -204,7 +204,7 @@ static void sign_report(void)
     slt_batch_answer writing = slt_batch(&worked.counts, TABLES(worked), late_write, sizeof late_write);
     print_batch("write", writing);
     expect("the signature is taken in", signing.refusal == SLT_NOT_REFUSED && signing.taken == 1 && signing.tried == 0);
-    expect("the report is signed", sort_of(&worked, 2) == 2);
+    expect("the report is signed", sort_of(&worked, 2) == SLT_SIGNED_OBJECT);
     expect("a signed report takes no write", writing.refusal == SLT_SIGNED && writing.taken == 0 && writing.tried == 0);
     expect("the counts stay", memcmp(&before, &worked.counts, sizeof before) == 0);
 }

@@ -1,7 +1,7 @@
 /*
  * Each call on a thread that has just the stack which the header states for it: the example runs whole on one with that of
- * slt_batch; then a file that fills all tables is taken in, the full tables are traced both ways and written out as the kept
- * log. A call that needs more stack ends in a fault. tools/c-test links the example with its main named `example`.
+ * slt_batch; then a file that fills all tables and signs an object is taken in, the full tables are traced both ways and written
+ * out as the kept log. A call that needs more stack ends in a fault. tools/c-test links the example with its main named `example`.
  */
 #define _DEFAULT_SOURCE
 #include <pthread.h>
@@ -12,9 +12,10 @@
 
 #include "trail.h"
 
-#define FILE_LENGTH (SLT_HEADER_LENGTH + SLT_RECORD_LENGTH * (SLT_MOST_ENTITIES + SLT_MOST_EDGES))
+#define SUBJECTS (SLT_MOST_ENTITIES - 1)
+#define FILE_LENGTH (SLT_HEADER_LENGTH + SLT_RECORD_LENGTH * (SLT_MOST_ENTITIES + SLT_MOST_EDGES + 1))
 
-static uint8_t file[FILE_LENGTH] = { 0x53, 0x4C, 0x54, 1 };
+static uint8_t file[FILE_LENGTH] = { 0x53, 0x4C, 0x54, 2 };
 static uint8_t log_bytes[FILE_LENGTH];
 static slt_counts counts;
 static uint32_t entities[SLT_ENTITY_WIDTH * SLT_MOST_ENTITIES];
@@ -53,19 +54,22 @@ static uint8_t *put_record(uint8_t *to, uint8_t kind, uint8_t sort, uint32_t sou
 }
 
 /*
- * As many subjects as there may be, and forks from each to the next, round and round: past the first round each makes a
- * version. Where the versions are as many as there may be, the last fork is repeated, and each time an edge is kept.
+ * As many entities as there may be, all but the last of them subjects, and forks from each subject to the next, round and round:
+ * past the first round each makes a version. Where the versions are as many as there may be, the last fork is repeated, and each
+ * time an edge is kept. The last entity is an object, and signed.
  */
 static void make_file(void)
 {
     uint8_t *to = file + SLT_HEADER_LENGTH;
     for (uint32_t x = 0; x < SLT_MOST_ENTITIES; x++) {
-        to = put_record(to, 0, 1, x, 0, 0);
+        to = put_record(to, SLT_DECLARATION, x < SUBJECTS ? SLT_SUBJECT : SLT_OBJECT, x, 0, 0);
     }
     for (uint32_t time = 1; time <= SLT_MOST_EDGES; time++) {
-        uint32_t step = time < SLT_MOST_VERSIONS ? time : SLT_MOST_VERSIONS - 1;
-        to = put_record(to, 4, 0, (step - 1) % SLT_MOST_ENTITIES, step % SLT_MOST_ENTITIES, time);
+        uint32_t last = SLT_MOST_VERSIONS - 2;
+        uint32_t step = time < last ? time : last;
+        to = put_record(to, SLT_FORK, 0, (step - 1) % SUBJECTS, step % SUBJECTS, time);
     }
+    put_record(to, SLT_SIGNATURE, 0, SUBJECTS, 0, 0);
 }
 
 int example(void);
@@ -124,9 +128,9 @@ int main(void)
     on_stack_of(SLT_BATCH_STACK, take_in);
     expect("the file fills all tables", batch_answer.refusal == SLT_NOT_REFUSED && memcmp(&counts, &full, sizeof full) == 0);
     on_stack_of(SLT_TRACE_STACK, trace_backward);
-    expect("the first comes from all", backward_answer.refusal == SLT_NOT_REFUSED && backward_answer.count == SLT_MOST_ENTITIES);
+    expect("the first comes from all subjects", backward_answer.refusal == SLT_NOT_REFUSED && backward_answer.count == SUBJECTS);
     on_stack_of(SLT_TRACE_STACK, trace_forward);
-    expect("each reaches all", forward_answer.refusal == SLT_NOT_REFUSED && forward_answer.count == SLT_MOST_ENTITIES);
+    expect("they reach all", forward_answer.refusal == SLT_NOT_REFUSED && forward_answer.count == SLT_MOST_ENTITIES);
     on_stack_of(SLT_LOG_STACK, write_log);
     expect("the kept log is the file", log_answer.refusal == SLT_NOT_REFUSED && log_answer.length == FILE_LENGTH
         && memcmp(log_bytes, file, sizeof file) == 0);

@@ -23,9 +23,9 @@ extern "C" {
 /*
  * The tables hold rows of 32-bit numbers, one row after the other, numbered from 0:
  *
- *   entity   sort (0 object, 1 subject, 2 signed object), latest version
+ *   entity   sort (of slt_sort), latest version
  *   version  entity, start, end, previous version (SLT_NONE for none)
- *   edge     from version, to version, kind (1 read, 2 write, 3 load, 4 fork, 5 execve), time, count, last
+ *   edge     from version, to version, kind (of slt_kind, SLT_READ to SLT_EXECVE), time, count, last
  *
  * An edge stands for the event that was kept as it, at its time, and for those that repeat it: the count says how many these are,
  * and last is the time of the last one. The counts of all edges add up to the events accepted.
@@ -47,14 +47,30 @@ extern "C" {
 
 #define SLT_NONE UINT32_C(0xFFFFFFFF)
 
+enum slt_sort {
+    SLT_OBJECT = 0,
+    SLT_SUBJECT = 1,
+    SLT_SIGNED_OBJECT = 2 /* in entity rows alone: an object is declared with sort 0, and signed by a signature */
+};
+
 /*
- * An event file has a header of 8 bytes, in bytes 3-4 its version, and records of 12, in byte 0 their kind: declarations (0), events
- * (1 to 5) and, in files of version 2 alone, signatures (6). A signature has the number of the object that it signs in bytes 2-3,
- * and 0 in the bytes after these and in byte 1. Declarations and events are the same in files of version 1 and 2; a declaration
- * has sort 0 or 1. Numbers are little-endian.
+ * An event file has a header of 8 bytes, in bytes 3-4 its version, and records of 12, in byte 0 their kind: declarations, events
+ * (SLT_READ to SLT_EXECVE) and, in files of version 2 alone, signatures. A signature has the number of the object that it signs in
+ * bytes 2-3, and 0 in the bytes after these and in byte 1. Declarations and events are the same in files of version 1 and 2.
+ * Numbers are little-endian.
  */
 #define SLT_HEADER_LENGTH 8
 #define SLT_RECORD_LENGTH 12
+
+enum slt_kind {
+    SLT_DECLARATION = 0,
+    SLT_READ = 1,
+    SLT_WRITE = 2,
+    SLT_LOAD = 3,
+    SLT_FORK = 4,
+    SLT_EXECVE = 5,
+    SLT_SIGNATURE = 6
+};
 
 /*
  * How many bytes of stack a thread needs that only makes the call, whatever it is lent, refused or not. Most of it is local

@@ -5,7 +5,6 @@ use mathlib.Core.Path.{_≡_, refl, sym, _∙_, ap}
 use Rattle.rows.specs.declared.EntityRow.{EntityRow}
 use Rattle.record.specs.declared.Declaration.{Declaration}
 use Rattle.record.specs.declared.Event.{Event}
-use Rattle.record.specs.declared.Record.the-variants as records
 use Rattle.record.specs.declared.Signature.{Signature}
 use Rattle.rules.specs.declared.Decision.{Decision}
 use Rattle.rules.specs.declared.Decision.the-variants.{Repeat, Widen, Renew}

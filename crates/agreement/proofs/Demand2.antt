@@ -33,7 +33,7 @@ use Rattle.agreement.proofs.Held.{known}
 use Rattle.agreement.proofs.Left.{left-by}
 use Rattle.agreement.proofs.Counted.{worked-stands}
 use Rattle.agreement.proofs.Signed.{taken-last, signed-held, no-more}
-use Rattle.agreement.proofs.Untouched.{untouched}
+use Rattle.agreement.proofs.Unsigned.{untouched}
 
 -- Each event of the plain list counts as accepted
 
@@ -73,7 +73,7 @@ held-holds cs a t l =
       last-is = ap (λ (c : Counts). c .last) (sym (s .counts)) ∙ taken-last (m .taken);
       signatures = λ x. signed-held (m .taken) (s .rows) x;
       no-more = no-more (m .taken);
-      untouched = untouched (plainAfter cs);
+      untouched = untouched (m .taken);
       versions = k .faithful .versions;
     }
 

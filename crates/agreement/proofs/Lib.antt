@@ -16,11 +16,13 @@ pub mod KeptOnly
 pub mod Counted
 pub mod Signed
 pub mod Untouched
+pub mod Passing
+pub mod Unsigned
 pub mod Demand2
+pub mod TracesUntouched
 -- The kept log taken in again
 pub mod Recent
 pub mod Decided
-pub mod Passing
 pub mod Relogged
 pub mod Before
 pub mod Again

@@ -40,7 +40,7 @@ taken-last {rs} t = taken-fine t .last ∙ lastOf-accepted (itemsOf rs)
 -- What a record does to the signed
 
 -- an event leaves the sorts and the number of entities
-event-sort : (T : Trail) (e : Event) (d : Decision) (x : ℕ) → changed T (happened T e d) .entity x .sort ≡ T .entity x .sort
+pub event-sort : (T : Trail) (e : Event) (d : Decision) (x : ℕ) → changed T (happened T e d) .entity x .sort ≡ T .entity x .sort
 event-sort T e (Repeat k) x = refl
 event-sort T e Widen x = refl
 event-sort T e Renew x = put-keeps (T .entity) (e .target .0) (entityRow (T .entity (e .target .0) .sort) (T .counts .versions)) (λ (r : EntityRow). r .sort) refl x
@@ -120,7 +120,7 @@ member-signed (next {rs = rs} t cap w r f h) x m = go (member-signed t x) (List�
         subst (λ (z : Record). SignedAt (worked (z ∷ rs)) x) e (signed-now cap rs x (ap (refusalOf cap (worked rs)) e ∙ h))
     go ih (inr i) = signed-after cap rs x r h (ih i)
 
-signed-member : {rs : List Record} → Taken rs → (x : ℕ) → SignedAt (worked rs) x → List·Memᴰ (signatureRecord x) rs
+pub signed-member : {rs : List Record} → Taken rs → (x : ℕ) → SignedAt (worked rs) x → List·Memᴰ (signatureRecord x) rs
 signed-member begun x z = absurd (omega (arith, z .0))
 signed-member (next {rs = rs} t cap w r f h) x z = go (signed-member t x) r f h z
   where

@@ -15,8 +15,9 @@ use Rattle.rules.specs.KeptLog.{signedOne, signedBelow, signatureRecord}
 use Rattle.rules.specs.PlainList.{worked}
 use Rattle.rules.specs.Calls.{batch, plainAfter}
 use Rattle.rules.specs.Worked.{room}
-use Rattle.rules.specs.SignedCases.{signedFile, signedPlain, workedSigned, workedRecords, reportWritten}
-use Rattle.rules.proofs.SignedCases.{signedCases}
+use Rattle.rules.specs.SignedCases.{signedFile}
+use Rattle.rules.specs.SignedListCases.{signedPlain, workedSigned, workedRecords, reportWritten}
+use Rattle.rules.proofs.SignedListCases.{signedListCases}
 use Rattle.rules.specs.Sound.{signedSort}
 use Rattle.rules.specs.History.{Item, accepted}
 use Rattle.rules.specs.StandsFor.{lastTime}
@@ -29,23 +30,23 @@ use Rattle.agreement.proofs.Determined.{determined}
 
 module _ {c : Counts} {t : Tables} (h : Holds (signedPlain []) c t) where
   pub signed-counts : c ≡ counts 4 5 4 7 7
-  signed-counts = h .counts ∙ signedCases .plain-counts
+  signed-counts = h .counts ∙ signedListCases .plain-counts
 
   inside : (x : ℕ) → x ≤ 3 → entityAt (t .entities) x ≡ worked (signedPlain []) .entity x
   inside x l = h .entity-rows x (let e = ap (λ (z : Counts). z .entities) signed-counts in omega arith)
 
   pub report-row : entityAt (t .entities) 2 ≡ entityRow 2 2
-  report-row = inside 2 (omega arith) ∙ ap (λ (l : List EntityRow). getD l 2 (entityRow 0 0)) (signedCases .plain-entities)
+  report-row = inside 2 (omega arith) ∙ ap (λ (l : List EntityRow). getD l 2 (entityRow 0 0)) (signedListCases .plain-entities)
 
   -- the same by what the claim says of signatures, and of the last time
   pub report-signed : entityAt (t .entities) 2 .sort ≡ signedSort
-  report-signed = signed-sort _ (h .signatures 2 .1 (subst (List·Memᴰ (signatureRecord 2)) (sym (signedCases .plain-signed)) (List·Memᴰ·head refl)) .1)
+  report-signed = signed-sort _ (h .signatures 2 .1 (subst (List·Memᴰ (signatureRecord 2)) (sym (signedListCases .plain-signed)) (List·Memᴰ·head refl)) .1)
 
   pub last-time : c .last ≡ 7
-  last-time = h .last-is ∙ ap (λ (l : List (List Item)). lastTime (accepted (getD l 0 []))) (signedCases .plain-items)
+  last-time = h .last-is ∙ ap (λ (l : List (List Item)). lastTime (accepted (getD l 0 []))) (signedListCases .plain-items)
 
   pub study-row : entityAt (t .entities) 0 ≡ entityRow 0 0
-  study-row = inside 0 (omega arith) ∙ ap (λ (l : List EntityRow). getD l 0 (entityRow 0 0)) (signedCases .plain-entities)
+  study-row = inside 0 (omega arith) ∙ ap (λ (l : List EntityRow). getD l 0 (entityRow 0 0)) (signedListCases .plain-entities)
 
   -- at least the report is signed
   pub some-signed : 1 ≤ signedBelow (entityAt (t .entities)) (c .entities)

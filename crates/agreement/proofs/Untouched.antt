@@ -22,26 +22,30 @@ use Rattle.rules.specs.Trail.{Trail, none, latestOf}
 use Rattle.rules.specs.Decide.{newestTo, leaves, folds, repeatOf, hasOutgoing, decide, decisionOf}
 use Rattle.rules.specs.Record.{declared, happened, signed, acceptedAt, changeOf}
 use Rattle.rules.specs.History.{itemOf}
-use Rattle.rules.specs.PlainList.{put, changed, worked, itemsOf}
+use Rattle.rules.specs.PlainList.{put, changed, worked, itemsOf, unsigned}
+use Rattle.closure.specs.Same.{SameButSorts}
 use Rattle.soundness.proofs.Put.{put-keeps}
-use Rattle.agreement.specs.Signed.{unsigned, Untouched}
 
--- T and U differ in sorts alone
-record Alike (T U : Trail) : Type 0 where
-  counts : T .counts ≡ U .counts
-  version : T .version ≡ U .version
-  edge : T .edge ≡ U .edge
-  latest : (x : ℕ) → latestOf T x ≡ latestOf U x
+-- T and U differ in sorts alone, in all rows
+pub record Alike (T U : Trail) : Type 0 where
+  pub counts : T .counts ≡ U .counts
+  pub version : T .version ≡ U .version
+  pub edge : T .edge ≡ U .edge
+  pub latest : (x : ℕ) → latestOf T x ≡ latestOf U x
 
--- the same number written as latest version
-latest-put : (N N′ : ℕ → EntityRow) (k : ℕ) (r r′ : EntityRow) → r .latest .0 ≡ r′ .latest .0 → ((x : ℕ) → N x .latest .0 ≡ N′ x .latest .0)
-    → (x : ℕ) → put N k r x .latest .0 ≡ put N′ k r′ x .latest .0
+-- what f reads of a row is the same in both, and in the row that is written
+pub put-alike : {A : Type 0} (f : EntityRow → A) (N N′ : ℕ → EntityRow) (k : ℕ) (r r′ : EntityRow) → f r ≡ f r′ → ((x : ℕ) → f (N x) ≡ f (N′ x))
+    → (x : ℕ) → f (put N k r x) ≡ f (put N′ k r′ x)
 unfolding put
-latest-put N N′ k r r′ p q x = go (eqb x k)
+put-alike f N N′ k r r′ p q x = go (eqb x k)
   where
-    go : (b : Bool) → cond b r (N x) .latest .0 ≡ cond b r′ (N′ x) .latest .0
+    go : (b : Bool) → f (cond b r (N x)) ≡ f (cond b r′ (N′ x))
     go true = p
     go false = q x
+
+latest-put : (N N′ : ℕ → EntityRow) (k : ℕ) (r r′ : EntityRow) → r .latest .0 ≡ r′ .latest .0 → ((x : ℕ) → N x .latest .0 ≡ N′ x .latest .0)
+    → (x : ℕ) → put N k r x .latest .0 ≡ put N′ k r′ x .latest .0
+latest-put = put-alike (λ (r : EntityRow). r .latest .0)
 
 module _ {T U : Trail} (a : Alike T U) where
   declared-alike : (d : Declaration) → Alike (changed T (declared (T .counts) d)) (changed U (declared (U .counts) d))
@@ -62,7 +66,7 @@ module _ {T U : Trail} (a : Alike T U) where
   }
 
   module _ (e : Event) where
-    decision-alike : decisionOf T e ≡ decisionOf U e
+    pub decision-alike : decisionOf T e ≡ decisionOf U e
     unfolding decisionOf repeatOf hasOutgoing
     decision-alike = λ j.
         decide (cond (folds (e .kind)) (newestTo (a .edge j) (a .version j) (a .latest (e .source .0) j) (e .target .0) (a .counts j .edges)) Nothing)
@@ -100,18 +104,25 @@ module _ {T U : Trail} (a : Alike T U) where
     event-alike =
         subst (λ (d : Decision). Alike (changed T (happened T e d)) (changed U (happened U e (decisionOf U e)))) (sym decision-alike) (happened-alike (decisionOf U e))
 
-alike : (rs : List Record) → Alike (worked (unsigned rs)) (worked rs)
+pub alike : (rs : List Record) → Alike (worked (unsigned rs)) (worked rs)
 unfolding changeOf
 alike [] = record { counts = refl; version = refl; edge = refl; latest = λ x. refl }
 alike (records.Declaration d ∷ rs) = declared-alike (alike rs) d
 alike (records.Event e ∷ rs) = event-alike (alike rs) e
 alike (records.Signature g ∷ rs) = signed-alike (alike rs) g
 
-same-items : (rs : List Record) → itemsOf (unsigned rs) ≡ itemsOf rs
+pub same-items : (rs : List Record) → itemsOf (unsigned rs) ≡ itemsOf rs
 same-items [] = refl
 same-items (records.Declaration d ∷ rs) = same-items rs
 same-items (records.Event e ∷ rs) = λ j. itemOf (decision-alike (alike rs) e j) e ∷ same-items rs j
 same-items (records.Signature g ∷ rs) = same-items rs
 
-pub untouched : (rs : List Record) → Untouched rs
-untouched rs = record { counts = alike rs .counts; items = same-items rs }
+pub same-but-sorts : (rs : List Record) → SameButSorts (worked (unsigned rs)) (worked rs)
+same-but-sorts rs =
+    let a = alike rs in
+    record {
+      counts = a .counts;
+      latest = λ x l. a .latest x;
+      version-rows = λ k l. ap (λ (W : ℕ → VersionRow). W k) (a .version);
+      edge-rows = λ k l. ap (λ (E : ℕ → EdgeRow). E k) (a .edge);
+    }

@@ -1,5 +1,6 @@
--- what lists of calls leave
+-- what lists of calls leave; plain lists whose records are taken in
 pub mod Left
+pub mod Taken
 -- the claims
 pub mod Signed
 pub mod Demand2
@@ -10,5 +11,3 @@ pub mod RoundTrip
 pub mod Refuted
 -- what the public calls carry of them
 pub mod Promises
--- plain lists, for the proofs
-pub mod Taken

@@ -27,7 +27,8 @@ use Rattle.rules.specs.Worked as worked-trail
 use Rattle.rules.specs.CallCases.{execves}
 use Rattle.rules.specs.MemberCases.{writtenPlain}
 use Rattle.rules.specs.Order.{event}
-use Rattle.rules.specs.SignedCases.{signedFile, signedPlain, workedSigned, reportWritten}
+use Rattle.rules.specs.SignedCases.{signedFile}
+use Rattle.rules.specs.SignedListCases.{signedPlain, workedSigned, reportWritten}
 use Rattle.closure.specs.Same.{SameRows}
 use Rattle.agreement.specs.Demand2.{Holds, Answered}
 use Rattle.agreement.specs.Demand3.{BackwardAgrees, ForwardAgrees, GainsAreKept}

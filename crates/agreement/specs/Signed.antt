@@ -1,14 +1,20 @@
 -- Document 02, 2.4: "A signed report takes no more writes."
 use Prim.Native.Nat.{ℕ, _<_}
 use mathlib.Core.Path.{_≡_}
-use mathlib.Core.List.{List, _∷_, _++_, List·Memᴰ, []}
+use mathlib.Core.List.{List, _∷_, _++_, List·Memᴰ}
 use mathlib.Core.Bool.{true}
+use Rattle.rows.specs.declared.Counts.{Counts}
 use Rattle.record.specs.declared.Record.{Record}
 use Rattle.record.specs.declared.Record.the-variants as records
 use Rattle.rules.specs.KeptLog.{signatureRecord}
-use Rattle.rules.specs.Trail.{Trail}
+use Rattle.rules.specs.Trail.{Tables, Trail}
 use Rattle.rules.specs.Sound.{isSigned}
-use Rattle.rules.specs.PlainList.{worked, itemsOf}
+use Rattle.rules.specs.PlainList.{worked, itemsOf, unsigned}
+use Rattle.rules.specs.Calls.{Call, plainAfter}
+use Rattle.closure.specs.Same.{SameButSorts}
+use Rattle.closure.specs.Sorts.{SameTraces}
+use Rattle.agreement.specs.Taken.{Taken}
+use Rattle.agreement.specs.Left.{LeftBy}
 
 -- x is declared and signed
 abbrev pub SignedAt : Trail → ℕ → Type 0
@@ -24,14 +30,14 @@ Enters x (records.Signature s) = s .entity .0 ≡ x
 abbrev pub NoMore : List Record → Type 0
 NoMore rs = (later earlier : List Record) (x : ℕ) → rs ≡ later ++ (signatureRecord x ∷ earlier) → (r : Record) → List·Memᴰ r later → Enters x r → ⊥
 
--- a plain list without its signatures
-abbrev pub unsigned : List Record → List Record
-unsigned [] = []
-unsigned (records.Declaration d ∷ rs) = records.Declaration d ∷ unsigned rs
-unsigned (records.Event e ∷ rs) = records.Event e ∷ unsigned rs
-unsigned (records.Signature s ∷ rs) = unsigned rs
-
--- what demand 3 says traces by: the counts, and the events with whether they are kept, are those of the list without signatures
+-- A plain list without its signatures: its records are taken in too; it gives the same counts and rows but for sorts, and the same events, each
+-- kept or dropped as before
 pub record Untouched (rs : List Record) : Type 0 where
-  pub counts : worked (unsigned rs) .counts ≡ worked rs .counts
+  pub taken : Taken (unsigned rs)
+  pub trail : SameButSorts (worked (unsigned rs)) (worked rs)
   pub items : itemsOf (unsigned rs) ≡ itemsOf rs
+
+-- After calls whose plain list is that of others without its signatures, every trace returns and leaves the same as after those
+abbrev pub TracesUntouched : Type 0
+TracesUntouched = (cs cs′ : List Call) (c c′ : Counts) (t t′ : Tables) → LeftBy cs c t → LeftBy cs′ c′ t′ → plainAfter cs′ ≡ unsigned (plainAfter cs)
+    → SameTraces c′ t′ c t

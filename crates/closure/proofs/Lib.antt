@@ -28,5 +28,7 @@ pub mod ByRelations
 -- lists of entities
 pub mod Union
 pub mod Members
--- trails with the same rows in use
+-- trails with the same rows in use, and with other sorts
 pub mod SameFacts
+pub mod Below
+pub mod Sorts

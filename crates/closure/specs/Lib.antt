@@ -3,3 +3,4 @@ pub mod ByRelations
 pub mod Members
 pub mod Collected
 pub mod Same
+pub mod Sorts

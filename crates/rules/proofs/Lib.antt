@@ -9,7 +9,10 @@ pub mod TriedCases
 pub mod TraceCases
 pub mod MemberCases
 pub mod LogCases
+pub mod SignatureCases
 pub mod SignedCases
+pub mod SignedLogCases
+pub mod SignedListCases
 pub mod ListingCases
 pub mod CallCases
 pub mod Start

@@ -1,31 +1,11 @@
--- Signatures: every row is computed by the definitions, from the bytes of the file.
+-- What a signature does: every row is computed by the definitions, from the bytes of the file.
 use mathlib.Core.Path.{refl}
-use Rattle.rules.specs.PlainList.{refusedAt, refusedBy}
 use Rattle.rules.specs.SignedCases.{SignedCases}
 use Rattle.rules.proofs.Computed.{computed}
 
 pub signedCases : SignedCases
-unfolding computed refusedAt refusedBy
+unfolding computed
 signedCases = record {
-  signature-1 = refl;
-  signature-255 = refl;
-  kinds = refl;
-  versions = refl;
-  versions-256 = refl;
-  version-512 = refl;
-  header-bytes = refl;
-  header-length = refl;
-  cut-short = refl;
-  declaration-1 = refl;
-  declaration-255 = refl;
-  event-1 = refl;
-  event-255 = refl;
-  sort = refl;
-  event-kind = refl;
-  decoded = refl;
-  decoded-in-1 = refl;
-  decoded-others = refl;
-  encoded = refl;
   signed-answer = refl;
   signed-counts = refl;
   signed-tables = refl;
@@ -85,60 +65,4 @@ signedCases = record {
   declared-later = refl;
   tried-signature = refl;
   tried-refused = refl;
-  sorts-of-0 = refl;
-  sorts-of-3 = refl;
-  both-signed = refl;
-  subject-1 = refl;
-  subject-2 = refl;
-  edge-from-signed = refl;
-  edge-to-signed = refl;
-  edge-signed-to-object = refl;
-  edge-object-to-signed = refl;
-  edge-between-signed = refl;
-  sort-3 = refl;
-  log-exact = refl;
-  log-longer = refl;
-  log-short = refl;
-  log-none = refl;
-  log-none-empty = refl;
-  log-0 = refl;
-  log-3 = refl;
-  log-two = refl;
-  log-two-short = refl;
-  log-sort-3 = refl;
-  log-turned = refl;
-  log-last = refl;
-  regrown-answer = refl;
-  regrown-counts = refl;
-  regrown-tables = refl;
-  regrown-log = refl;
-  regrown-write = refl;
-  between = refl;
-  regrown-between = refl;
-  regrown-two = refl;
-  regrown-two-entities = refl;
-  plain-signed = refl;
-  plain-items = refl;
-  plain-accepted = refl;
-  plain-kept = refl;
-  plain-tried = refl;
-  plain-stand = refl;
-  plain-counts = refl;
-  plain-entities = refl;
-  plain-refused = refl;
-  plain-not-added = refl;
-  plain-added = refl;
-  added-after = refl;
-  added-before = refl;
-  plain-in-1 = refl;
-  refused-in-1 = refl;
-  calls-plain = refl;
-  calls-counts = refl;
-  calls-tables = refl;
-  listed-signed = refl;
-  listed-write = refl;
-  listed-second = refl;
-  listed-subject = refl;
-  listed-unknown = refl;
-  listed-in-1 = refl;
 }

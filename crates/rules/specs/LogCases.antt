@@ -38,7 +38,7 @@ lateLog = keptLogOf (counts 2 2 1 1 67305985) (tables (full .entities) (full .ve
 pub record LogCases : Type 0 where
   pub fresh-exact : freshLog 8 ≡ logOf header 8
   pub fresh-short : freshLog 7 ≡ logRefused 15 7
-  -- "the header, all declarations by number, then all edges in order as events"
+  -- "the header, all declarations by number, then all edges in order as events"; where nothing is signed, that is all
   pub exact : soundLog 116 ≡ logOf (header ++ (soundDeclared ++ soundEvents)) 116
   -- "Bytes after it are untouched."
   pub longer : soundLog 118 ≡ logOf (header ++ (soundDeclared ++ (soundEvents ++ (9 ∷ 9 ∷ [])))) 116

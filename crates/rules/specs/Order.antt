@@ -62,7 +62,7 @@ pub record OrderOfRefusals : Type 0 where
   pub r6-10 : Refuses freshCounts noRows (declare 1 0) NotNext 0
   pub r10-11 : Refuses freshCounts noRows (declare 0 0) EntitiesFull 0
   pub r11 : Refuses freshCounts noVersion (declare 0 0) VersionsFull 0
-  -- "an event 5, 7, 8, 9, 13, 12, 11"
+  -- "an event 5, 7, 8, 9, 13, 12, 11", with 17 after 8 now: 8 and 17, and 17 and 9, are in SignedCases
   pub r5-7 : Refuses (used 1) full (event 1 9 9 9) Undeclared 0
   pub r5-8 : Refuses (used 1) full (event 1 1 9 9) Undeclared 0
   pub r7-8 : Refuses (used 1) full (event 1 1 1 9) SourceIsTarget 0

@@ -35,3 +35,4 @@ pub mod RowsStay
 pub mod Counted
 pub mod FrameStep
 pub mod Frame
+pub mod Refuted

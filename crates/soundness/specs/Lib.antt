@@ -5,3 +5,4 @@ pub mod Taken
 pub mod Parts
 -- What a batch leaves as it was lent
 pub mod Frame
+pub mod Refuted
