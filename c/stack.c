@@ -92,11 +92,11 @@ static void *trace_backward(void *unused)
     return unused;
 }
 
-/* From every entity, twice. */
+/* From every subject, twice and more. */
 static void *trace_forward(void *unused)
 {
     for (uint32_t i = 0; i < LENGTH(members); i++) {
-        members[i] = i % SLT_MOST_ENTITIES;
+        members[i] = i % SUBJECTS;
     }
     forward_answer = slt_forward(counts, TABLES, members, LENGTH(members), 0, work, LENGTH(work), marks, LENGTH(marks));
     return unused;
@@ -130,7 +130,7 @@ int main(void)
     on_stack_of(SLT_TRACE_STACK, trace_backward);
     expect("the first comes from all subjects", backward_answer.refusal == SLT_NOT_REFUSED && backward_answer.count == SUBJECTS);
     on_stack_of(SLT_TRACE_STACK, trace_forward);
-    expect("they reach all", forward_answer.refusal == SLT_NOT_REFUSED && forward_answer.count == SLT_MOST_ENTITIES);
+    expect("they reach all subjects", forward_answer.refusal == SLT_NOT_REFUSED && forward_answer.count == SUBJECTS);
     on_stack_of(SLT_LOG_STACK, write_log);
     expect("the kept log is the file", log_answer.refusal == SLT_NOT_REFUSED && log_answer.length == FILE_LENGTH
         && memcmp(log_bytes, file, sizeof file) == 0);

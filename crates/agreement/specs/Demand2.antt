@@ -43,7 +43,7 @@ pub record Holds (rs : List Record) (c : Counts) (t : Tables) : Type 0 where
   pub last-is : c .last ≡ lastTime (accepted (itemsOf rs))
   pub signatures : (x : ℕ) → SignedAt (trailOf c t) x ↔ List·Memᴰ (signatureRecord x) rs
   pub no-more : NoMore rs
-  -- traces are as without the signatures
+  -- without its signatures the list is taken in too, and gives the same rows but for sorts and the same events; of traces: `TracesUntouched`
   pub untouched : Untouched rs
   -- "Over a trail grown from fresh, versions ≤ entities + edges."
   pub versions : c .versions ≤ c .entities + c .edges

@@ -30,14 +30,14 @@ Enters x (records.Signature s) = s .entity .0 ≡ x
 abbrev pub NoMore : List Record → Type 0
 NoMore rs = (later earlier : List Record) (x : ℕ) → rs ≡ later ++ (signatureRecord x ∷ earlier) → (r : Record) → List·Memᴰ r later → Enters x r → ⊥
 
--- A plain list without its signatures: its records are taken in too; it gives the same counts and rows but for sorts, and the same events, each
--- kept or dropped as before
+-- A plain list without its signatures: its records are taken in too, with some capacity lent; it gives the same counts and rows but for sorts,
+-- and the same events, kept or dropped alike
 pub record Untouched (rs : List Record) : Type 0 where
   pub taken : Taken (unsigned rs)
   pub trail : SameButSorts (worked (unsigned rs)) (worked rs)
   pub items : itemsOf (unsigned rs) ≡ itemsOf rs
 
--- After calls whose plain list is that of others without its signatures, every trace returns and leaves the same as after those
+-- After two lists of calls whose plain lists differ in signatures alone, every trace returns and leaves the same
 abbrev pub TracesUntouched : Type 0
-TracesUntouched = (cs cs′ : List Call) (c c′ : Counts) (t t′ : Tables) → LeftBy cs c t → LeftBy cs′ c′ t′ → plainAfter cs′ ≡ unsigned (plainAfter cs)
-    → SameTraces c′ t′ c t
+TracesUntouched = (cs cs′ : List Call) (c c′ : Counts) (t t′ : Tables) → LeftBy cs c t → LeftBy cs′ c′ t′ → unsigned (plainAfter cs) ≡ unsigned (plainAfter cs′)
+    → SameTraces c t c′ t′

@@ -1,4 +1,4 @@
--- Two trails with the same counts of rows and the same rows in use, whatever stands past the counts; and the same but for sorts.
+-- Two trails with the same rows in use, whatever stands past the counts; and two with the same but for sorts.
 use Prim.Native.Nat.{ℕ, _<_}
 use mathlib.Core.Path.{_≡_}
 use Rattle.rules.specs.Trail.{Trail, latestOf}
@@ -11,7 +11,7 @@ pub record SameRows (T T′ : Trail) : Type 0 where
   pub version-rows : (k : ℕ) → k < T .counts .versions → T .version k ≡ T′ .version k
   pub edge-rows : (k : ℕ) → k < T .counts .edges → T .edge k ≡ T′ .edge k
 
--- the same counts and rows in use, where the sort of an entity may be another
+-- the same counts, and the same rows in use but for the sorts of the entities
 pub record SameButSorts (T T′ : Trail) : Type 0 where
   pub counts : T .counts ≡ T′ .counts
   pub latest : (x : ℕ) → x < T .counts .entities → latestOf T x ≡ latestOf T′ x

@@ -1,4 +1,4 @@
--- Traces read no sort: whether an object is signed (document 02, 2.4) changes none.
+-- Past the test for 16 traces read no sort: whether an object is signed (document 02, 2.4) changes none.
 use Prim.Native.Nat.{ℕ}
 use mathlib.Core.Path.{_≡_}
 use mathlib.Core.Bool.{true}

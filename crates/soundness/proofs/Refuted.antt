@@ -1,11 +1,9 @@
 -- Each by the field of the claim that it contradicts.
 use Prim.Native.Nat.{ℕ, _≤_, _<_}
 use native.Mathlib.Omega.{arith}
-use mathlib.Core.Path.{_≡_, refl, sym, _∙_, ap}
+use mathlib.Core.Path.{_≡_, refl, sym, ap}
 use mathlib.Core.Logic.{inl, inr}
 use mathlib.Core.Bool.{true≢false}
-use Rattle.rows.specs.declared.VersionRow.{VersionRow}
-use Rattle.rows.specs.declared.EdgeRow.{EdgeRow}
 use Rattle.rows.specs.Rows.{entityAt, versionAt, edgeAt}
 use Rattle.rules.specs.Trail.{counts, trailOf}
 use Rattle.rules.specs.Sound.{isSubject, isObject, isSigned}
@@ -38,8 +36,8 @@ pub refuted : Refuted
 unfolding entityAt versionAt edgeAt isObject isSubject
 refuted = record {
   row-changed = λ b w f. w (report f .row);
-  version-widened = λ b w f. omega (arith, sym w ∙ ap (λ (r : VersionRow). r .end) (version-is f));
-  edge-counted = λ b w f. omega (arith, sym w ∙ ap (λ (r : EdgeRow). r .count) (edge-is f));
+  version-changed = λ b w f. w (version-is f);
+  edge-changed = λ b w f. w (edge-is f);
   version-added = λ b w f. report f .no-version 5 (omega arith) (omega (arith, w .0)) (w .1);
   edge-added = λ b w f. no-edge-more f (w .0) (w .1);
   study-a-subject = λ b w f. subject (sort-of f 0 (omega arith)) w;
