@@ -141,3 +141,20 @@ module _ (kind s m n : ℕ) (p : m ≡ declaredSort s) where
       go true false = refl
       go false true = refl
       go false false = refl
+
+-- the very number that a kind asks for in its target: such a target fits and is not signed
+module _ (kind s : ℕ) (e : s ≡ targetSort kind) where
+  pub asked-fits : targetFits kind s ≡ true
+  unfolding targetFits isObject isSubject
+  asked-fits = rw e (go (eqb kind (kindNo Write)))
+    where
+      go : (b : Bool) → cond b (not (eqb (cond b 0 1) 1)) (eqb (cond b 0 1) 1) ≡ true
+      go true = refl
+      go false = refl
+
+  pub asked-unsigned : isSigned s ≡ false
+  asked-unsigned = low-unsigned s (rw e (go (eqb kind (kindNo Write))))
+    where
+      go : (b : Bool) → cond b 0 1 ≤ 1
+      go true = omega arith
+      go false = omega arith

@@ -64,7 +64,7 @@ fn source_sort(kind: u32) -> u8
     0
 }
 
-fn target_sort(kind: u32) -> u8
+pub fn target_sort(kind: u32) -> u8
     ensures { λ r. ⌜ r ≡ targetSort kind ⌝ }
 {
     if kind == WRITE {
