@@ -14,6 +14,7 @@ pub mod OneEntity
 -- What the edges stand for, the signatures, and demand 2
 pub mod KeptOnly
 pub mod Counted
+pub mod SignedStep
 pub mod Signed
 pub mod Untouched
 pub mod Passing

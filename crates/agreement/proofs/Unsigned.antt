@@ -30,7 +30,8 @@ use Rattle.soundness.proofs.Taken.{event-taken, signature-taken}
 use Rattle.agreement.specs.Taken.{Taken, begun, next}
 use Rattle.agreement.specs.Signed.{Untouched}
 use Rattle.agreement.proofs.Passing.{event-passes}
-use Rattle.agreement.proofs.Signed.{event-sort, signed-member}
+use Rattle.agreement.proofs.SignedStep.{event-sort}
+use Rattle.agreement.proofs.Signed.{signed-member}
 use Rattle.agreement.proofs.Untouched.{put-alike, decision-alike, alike, same-items, same-but-sorts}
 
 -- the same entities are subjects

@@ -17,23 +17,25 @@ ghost use Rattle.rows.specs.Rows.{entityAt, versionAt, edgeAt};
 ghost use Rattle.rows.specs.Capacity.{mostEntities, versionCapacity, edgeCapacity};
 ghost use Rattle.record.specs.Layout.{mostKind};
 ghost use Rattle.rules.specs.Trail.{tables, capacityOf, trailOf};
-ghost use Rattle.rules.specs.Sound.{allBelow, countSum, sourceFits, targetFits, soundCounts, soundEntity, soundPrevious, soundVersion, entityTest, versionTest, isSound};
-ghost use Rattle.rules.specs.KeptLog.{declaredSort};
-ghost use Rattle.soundness.specs.Parts.{sourceSort, targetSort, codeOf, Owners, VersionsReady, RowsReady, sortsFit, soundCodes, codedEdge, codedTest};
+ghost use Rattle.rules.specs.Sound.{allBelow, countSum, soundCounts, soundEntity, soundPrevious, soundVersion, entityTest, versionTest, isSound};
+ghost use Rattle.soundness.specs.Parts.{codeOf, Owners, VersionsReady, RowsReady, sortsFit, soundCodes, codedEdge, codedTest};
+
+mod fits;
+
+pub use fits::declared_sort;
+pub use fits::source_fits;
+pub use fits::target_fits;
+pub use fits::target_sort;
 
 // The previous of a first version.
 pub const NONE: u32 = 0xFFFFFFFF;
 
 pub const MOST_ACCEPTED: u32 = 1000000;
 
-// Sorts, and the kinds whose source is a subject.
+// The sorts of a subject and of a signed object.
 pub const SUBJECT: u32 = 1;
 
 pub const SIGNED: u32 = 2;
-
-const WRITE: u32 = 2;
-
-const FORK: u32 = 4;
 
 const MOST_KIND: u32 = 5;
 
@@ -43,49 +45,6 @@ const FEW_VERSIONS: u32 = 2048;
 // A hex digit for each kind, from 0 up: its bit 2 * s + t is set if the kind asks for a source with bit s of its code and a target
 // with bit t.
 const FITS: u32 = 0x282420;
-
-// The sort that an entity with this sort is declared with: 1 for a subject, 0 for an object, signed or not.
-pub fn declared_sort(sort: u32) -> u8
-    ensures { λ r. ⌜ r ≡ declaredSort sort ⌝ }
-{
-    if sort == SUBJECT { 1 } else { 0 }
-}
-
-// 1 if a kind asks for a subject as its source, or its target, else 0.
-fn source_sort(kind: u32) -> u8
-    ensures { λ r. ⌜ r ≡ sourceSort kind ⌝ }
-{
-    if kind == WRITE {
-        return 1;
-    }
-    if kind == FORK {
-        return 1;
-    }
-    0
-}
-
-pub fn target_sort(kind: u32) -> u8
-    ensures { λ r. ⌜ r ≡ targetSort kind ⌝ }
-{
-    if kind == WRITE {
-        return 0;
-    }
-    1
-}
-
-// Whether an entity of this sort may be the source of an event of this kind, or the target. Kinds come mixed, so there is one
-// test of both and no branch on the kind.
-pub fn source_fits(kind: u32, sort: u32) -> bool
-    ensures { λ z. ⌜ z ≡ sourceFits kind sort ⌝ }
-{
-    declared_sort(sort) == source_sort(kind)
-}
-
-pub fn target_fits(kind: u32, sort: u32) -> bool
-    ensures { λ z. ⌜ z ≡ targetFits kind sort ⌝ }
-{
-    declared_sort(sort) == target_sort(kind)
-}
 
 // The rows r and v are of entity n and of its latest version.
 fn entity_ok(c: Counts, n: EntityNo, r: EntityRow, v: VersionRow) -> bool
@@ -139,7 +98,7 @@ fn code(entities: &[u32], n: EntityNo) -> u16
     requires { ⌜ n .0 < mostEntities ⌝ }
     ensures { λ r. ⌜ r ≡ codeOf (entityAt (now (entities .entry))) (n .0) ⌝ }
 {
-    let subject = declared_sort(rows::entity_sort(entities, n));
+    let subject = fits::declared_sort(rows::entity_sort(entities, n));
     (2 * n.0 + (subject as u32)) as u16
 }
 

@@ -1,7 +1,7 @@
 -- By the tests of the kind.
 use Rattle.soundness.proofs.Sorts.{by-write, by-fork, from-object}
-use Rattle.soundness.proofs.source_sort.Statement.{statement}
-use Rattle.soundness.proofs.source_sort.Tie as tie
+use Rattle.soundness.proofs.fits.source_sort.Statement.{statement}
+use Rattle.soundness.proofs.fits.source_sort.Tie as tie
 
 returns : tie.Need-returns
 returns c = search by-write

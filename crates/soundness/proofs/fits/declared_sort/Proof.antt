@@ -2,8 +2,8 @@
 use Rattle.rules.specs.Sound.{isSubject}
 use Rattle.rules.specs.KeptLog.{declaredSort}
 use Rattle.soundness.proofs.Tests.{tests}
-use Rattle.soundness.proofs.declared_sort.Statement.{statement}
-use Rattle.soundness.proofs.declared_sort.Tie as tie
+use Rattle.soundness.proofs.fits.declared_sort.Statement.{statement}
+use Rattle.soundness.proofs.fits.declared_sort.Tie as tie
 
 returns : tie.Need-returns
 unfolding declaredSort isSubject

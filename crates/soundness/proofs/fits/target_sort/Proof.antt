@@ -1,7 +1,7 @@
 -- By the test of the kind.
 use Rattle.soundness.proofs.Sorts.{into-object, into-subject}
-use Rattle.soundness.proofs.target_sort.Statement.{statement}
-use Rattle.soundness.proofs.target_sort.Tie as tie
+use Rattle.soundness.proofs.fits.target_sort.Statement.{statement}
+use Rattle.soundness.proofs.fits.target_sort.Tie as tie
 
 returns : tie.Need-returns
 returns c = search into-object
