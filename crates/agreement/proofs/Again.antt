@@ -92,7 +92,8 @@ module _ (F : Trail) (cap : Capacity) (w : Within cap) (room : EnoughRows cap (F
       source-fits = source-same (kindNo (e .kind)) _ _ (subject-again _ (p .source-in)) ∙ p .source-fits;
       target-fits = target-same (kindNo (e .kind)) _ _ (subject-again _ (p .target-in)) ∙ p .target-fits;
       unsigned = ap isSigned (sort-again _ (p .target-in)) ∙ declared-unsigned (F .entity (e .target .0) .sort);
-      later = omega (arith, p .later, r .last);
+      positive = p .positive;
+      not-earlier = omega (arith, p .not-earlier, r .last);
       accepted-left = omega (arith, p .accepted-left, r .accepted);
       room-left = room-again d refl;
     }
@@ -128,7 +129,7 @@ module _ (F : Trail) (cap : Capacity) (w : Within cap) (room : EnoughRows cap (F
     versions = r .versions;
     edges = r .edges;
     accepted = omega (arith, r .accepted);
-    last = omega (arith, r .last, p .later);
+    last = omega (arith, r .last, p .not-earlier);
   }
   regrown-event T e Widen cap₀ g q p b r = regrown-kept T e Widen cap₀ g q refl p b r
   regrown-event T e Renew cap₀ g q p b r = regrown-kept T e Renew cap₀ g q refl p b r

@@ -46,7 +46,7 @@ traces-agree (backward t v time work marks ∷ cs) a = (backward-held cs (a .1) 
 traces-agree (forward t us time work marks ∷ cs) a = (forward-held cs (a .1) t (a .0) us time work marks, traces-agree cs (a .1))
 
 gains-kept : (cs : List Call) → AllLent cs → GainsAreKept (itemsOf (plainAfter cs))
-gains-kept cs a = let f = taken-fine (matches cs a .taken) in claims .document01 (f .grown) (f .falling) .gain
+gains-kept cs a later earlier e x q g = let f = taken-fine (matches cs a .taken) in g .1 (g .0 .0, claims .any-working (f .grown) .gain later earlier e x q (g .0 .1))
 
 pub demand3 : Demand3
 demand3 cs a = (traces-agree cs a, gains-kept cs a)

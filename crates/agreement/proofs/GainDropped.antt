@@ -9,11 +9,10 @@ use lib.ListN.{getD}
 use Rattle.record.specs.declared.Kind.the-variants.{Read, Write}
 use Rattle.record.specs.declared.Event.{Event}
 use Rattle.rules.specs.declared.BackwardAnswer.{BackwardAnswer}
-use Rattle.rules.specs.Paths.{CausalPath, PathBy, Gains}
+use Rattle.rules.specs.Paths.{done, skip, take, CausalPath, PathBy, Gains}
 use Rattle.rules.specs.History.{Item, kept, dropped, accepted, keptEvents}
 use Rattle.rules.specs.PlainList.{itemsOf}
-use Rattle.causality.specs.Order.{upTo}
-use Rattle.causality.proofs.Strict.{among-nil, among-cons}
+use Rattle.causality.proofs.Parts.{upTo}
 use Rattle.causality.proofs.PathsBy.{causal-by}
 use Rattle.agreement.specs.Demand3.{GainsAreKept}
 use Rattle.agreement.specs.Refuted.{workedPlain}
@@ -38,10 +37,9 @@ gains-montage = ((λ q. omega arith, path), λ a. no-path (a .1))
   where
     path : CausalPath (event Write 1 2 6 ∷ by-5) 3 2
     path = record {
-      path = event Read 3 1 5 ∷ event Write 1 2 6 ∷ [];
+      path = event Write 1 2 6 ∷ event Read 3 1 5 ∷ [];
       links = (refl, (refl, refl));
-      rising = (omega arith, tt);
-      members = among-cons (List·Memᴰ·tail (List·Memᴰ·head refl)) (among-cons (List·Memᴰ·head refl) among-nil);
+      order = take (take (skip (skip (skip (skip done)))));
     }
 
 -- the last accepted of a list of items, kept or dropped, and the items before it

@@ -15,7 +15,7 @@ use Rattle.soundness.specs.Facts.{RowFacts}
 use Rattle.closure.specs.Same.{SameRows}
 use Rattle.closure.proofs.SameFacts.{same-extends}
 use Rattle.causality.specs.Working.{EntityMarked, Same, Grown}
-use Rattle.causality.specs.Statements.{Faithful, Document01}
+use Rattle.causality.specs.Statements.{Faithful}
 use Rattle.causality.proofs.Same.{grown-same}
 use Rattle.causality.proofs.Theorem.{claims}
 use Rattle.agreement.proofs.Growing.{keeps}
@@ -41,7 +41,6 @@ pub record Known (U : Trail) (n : ℕ) (hs : List Item) : Type 0 where
   pub entities : n ≡ U .counts .entities
   pub grown : Grown U hs
   pub faithful : Faithful U hs
-  pub document01 : Document01 U hs
 
 pub known : (h : Held) (rs : List Record) → Matches h rs → (t : Tables) → Lent h t → Known (trailOf (h .counts) t) (worked rs .counts .entities) (itemsOf rs)
 known h rs m t l =
@@ -54,5 +53,4 @@ known h rs m t l =
       entities = a .rows .entities;
       grown = g;
       faithful = claims .any-working g;
-      document01 = claims .document01 g (f .falling);
     }

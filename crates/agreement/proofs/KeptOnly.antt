@@ -8,13 +8,13 @@ use mathlib.Core.Bool.{Bool, true, false, cond}
 use mathlib.Core.List.{List, [], _∷_}
 use Rattle.record.specs.declared.Event.{Event}
 use Rattle.rules.specs.Trail.{Trail}
+use Rattle.rules.specs.Paths.{Part, done, skip, take}
 use Rattle.rules.specs.History.{Item, kept, dropped, accepted, keptEvents, into, since, intakeTime}
 use Rattle.causality.specs.Working.{ne, Grown}
-use Rattle.causality.specs.Order.{Part, done, skip, take, upTo}
 use Rattle.causality.proofs.Declared.{OldEntity}
 use Rattle.causality.proofs.Growth.{inv, grown-ind, OnDeclared, OnDropped, OnKept}
 use Rattle.causality.proofs.Reach.{Reach, All-imp, reach-refl, reach-part, reach-stuck}
-use Rattle.causality.proofs.Parts.{upTo-in, upTo-out, upTo-all, since-part}
+use Rattle.causality.proofs.Parts.{upTo, upTo-in, upTo-out, upTo-all, since-part}
 use Rattle.causality.proofs.Accepted.{grown-within}
 use Rattle.causality.proofs.Walk.{StartsAt, starts-some}
 use Rattle.causality.proofs.ForwardMarks.{fwd-trans}
@@ -122,7 +122,7 @@ backward-kept g = grown-ind Borne (λ T _ _ _ t x y. (λ z. z, λ z. z)) (λ T T
     drop T hs e g f l ih t x y = go (decLe (e .time) t)
       where
         all : e .time ≤ t → upTo t (accepted hs) ≡ accepted hs
-        all k = upTo-all t (accepted hs) (All-imp (λ d w. omega (arith, w .by, f .later)) (accepted hs) (grown-within g))
+        all k = upTo-all t (accepted hs) (All-imp (λ d w. omega (arith, w .by, f .not-earlier)) (accepted hs) (grown-within g))
 
         go : Dec (e .time ≤ t) → Reach (upTo t (e ∷ accepted hs)) x y ↔ Reach (upTo t (keptEvents hs)) x y
         go (no n) = rw (upTo-out t e (accepted hs) (omega arith)) (ih t x y)

@@ -41,6 +41,7 @@ pub mod SignedAnswers
 pub mod NoEdge
 pub mod LongerPaths
 pub mod OwnIntakes
+pub mod Ticks
 pub mod GainDropped
 pub mod Refuted
 -- What the public calls carry

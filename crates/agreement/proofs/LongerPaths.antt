@@ -1,17 +1,16 @@
 -- With the event at 8, a causal path leads from the study by the stager's two versions to the montage, and from the montage none through
 -- later events.
-use Prim.Native.Nat.{ℕ, _≤_}
+use Prim.Native.Nat.{ℕ}
 use native.Mathlib.Omega.{arith}
 use mathlib.Core.Path.{_≡_, refl, sym, subst}
-use mathlib.Core.List.{List, [], _∷_, List·Memᴰ·head, List·Memᴰ·tail, List·Memᴰ·not-nil}
+use mathlib.Core.List.{List, [], _∷_}
 use lib.ListN.{getD}
 use Rattle.record.specs.declared.Kind.the-variants.{Read, Write}
 use Rattle.record.specs.declared.Event.{Event}
 use Rattle.rules.specs.Backward.{BackwardTrace}
 use Rattle.rules.specs.Forward.{ForwardTrace}
-use Rattle.rules.specs.Paths.{Links, CausalPath, PathBy}
+use Rattle.rules.specs.Paths.{Links, Part, done, skip, take, CausalPath, PathBy}
 use Rattle.rules.specs.History.{Item, kept, accepted, into, since, Reached}
-use Rattle.causality.proofs.Strict.{Among, among-nil, among-cons, all-mem}
 use Rattle.agreement.specs.Demand3.{BackwardAgrees, ForwardAgrees}
 use Rattle.agreement.specs.Refuted.{longerPlain}
 use Rattle.agreement.proofs.OneEntity.{one-entity}
@@ -22,18 +21,16 @@ longer = kept (event Write 1 3 8) ∷ items-by-7
 
 study-to-montage : CausalPath (accepted longer) 0 3
 study-to-montage = record {
-  path = event Read 0 1 1 ∷ event Write 1 3 8 ∷ [];
+  path = event Write 1 3 8 ∷ event Read 0 1 1 ∷ [];
   links = (refl, (refl, refl));
-  rising = (omega arith, tt);
-  members = among-cons (List·Memᴰ·tail (List·Memᴰ·tail (List·Memᴰ·tail (List·Memᴰ·tail (List·Memᴰ·tail (List·Memᴰ·tail (List·Memᴰ·tail (List·Memᴰ·head refl))))))))
-      (among-cons (List·Memᴰ·head refl) among-nil);
+  order = take (skip (skip (skip (skip (skip (skip (take done)))))));
 }
 
 pub montage-back : {work marks : List ℕ} (b : BackwardTrace) → BackwardAgrees longerPlain 3 8 work marks b → b .answer .refusal ≡ 0 → getD (b .marks) 0 0 ≡ 1
 unfolding study-to-montage
 montage-back b a z =
     a .marks-are z .marked 0 (omega (arith, computed .entities)) .1
-    (subst (λ (hs : List Item). PathBy (accepted hs) 8 0 3) (sym (computed .longer)) (study-to-montage, λ e m. all-mem (λ d. d .time ≤ 8) (study-to-montage .path) (omega arith, (omega arith, tt)) m))
+    (subst (λ (hs : List Item). PathBy (accepted hs) 8 0 3) (sym (computed .longer)) (study-to-montage, (omega arith, (omega arith, tt))))
 
 -- the study has no intake
 pub study-forward : {work marks : List ℕ} (f : ForwardTrace) → ForwardAgrees longerPlain (0 ∷ []) 4 work marks f → f .answer .refusal ≡ 0 → getD (f .marks) 3 0 ≡ 1
@@ -44,11 +41,10 @@ study-forward f a z =
 -- the event at 8 is the montage's intake, and nothing is accepted after it
 montage-alone : Reached 3 8 longer 1 → ⊥
 unfolding since into
-montage-alone p = none (p .path) (p .links) (p .members)
+montage-alone p = none (p .path) (p .order) (p .links)
   where
-    none : (es : List Event) → Links 3 1 es → Among es [] → ⊥
-    none [] k m = omega arith
-    none (e ∷ es) k m = List·Memᴰ·not-nil (m e (List·Memᴰ·head refl))
+    none : (p : List Event) → Part p [] → Links 3 1 p → ⊥
+    none p done l = omega arith
 
 pub montage-forward : {work marks : List ℕ} (f : ForwardTrace) → ForwardAgrees longerPlain (3 ∷ []) 8 work marks f → f .answer .refusal ≡ 0 → getD (f .marks) 1 0 ≡ 1 → ⊥
 montage-forward f a z m =

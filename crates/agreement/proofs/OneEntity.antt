@@ -3,7 +3,7 @@ use Prim.Native.Nat.{ℕ}
 use mathlib.Core.Logic.{_↔_, Iff·symm}
 use mathlib.Core.List.{List, [], _∷_}
 use Rattle.record.specs.declared.Record.{Record}
-use Rattle.rules.specs.Paths.{PathFrom}
+use Rattle.rules.specs.Paths.{PathAfter}
 use Rattle.rules.specs.History.{accepted, intakeTime, Reached}
 use Rattle.rules.specs.PlainList.{itemsOf}
 use Rattle.rules.specs.Members.{OfAny}
@@ -31,7 +31,7 @@ module _ (rs : List Record) (u time : ℕ) (work marks : List ℕ) (f : ForwardT
     refusal = a .refusal;
     marks-are = λ z. marksAre-iff reached (a .marks-are z);
     intake-is = λ z. earliest-alone (λ v. intakeTime v time (itemsOf rs)) .0 (a .intake-is z);
-    never-less = λ z y p. a .never-less z y (ofAny-one (PathFrom (accepted (itemsOf rs)) time) u y .1 p);
+    never-less = λ z y p. a .never-less z y (ofAny-one (PathAfter (accepted (itemsOf rs)) time) u y .1 p);
   }
 
   from-one : OneAgrees rs u time work marks f → ForwardAgrees rs (u ∷ []) time work marks f
@@ -39,7 +39,7 @@ module _ (rs : List Record) (u time : ℕ) (work marks : List ℕ) (f : ForwardT
     refusal = a .refusal;
     marks-are = λ z. marksAre-iff (λ y. Iff·symm (reached y)) (a .marks-are z);
     intake-is = λ z. earliest-alone (λ v. intakeTime v time (itemsOf rs)) .1 (a .intake-is z);
-    never-less = λ z y p. a .never-less z y (ofAny-one (PathFrom (accepted (itemsOf rs)) time) u y .0 p);
+    never-less = λ z y p. a .never-less z y (ofAny-one (PathAfter (accepted (itemsOf rs)) time) u y .0 p);
   }
 
 pub one-entity : OneEntity

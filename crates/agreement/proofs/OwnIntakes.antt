@@ -1,18 +1,17 @@
 -- Where 1 reads 0 at 1 and writes 0 at 2, and 2 is in no event, no causal path leads to 1 from 0 after its intake at 2, nor from 2.
 use Prim.Native.Nat.{ℕ}
 use native.Mathlib.Omega.{arith}
-use mathlib.Core.Path.{_≡_, refl, ap, subst}
+use mathlib.Core.Path.{_≡_, subst}
 use mathlib.Core.Logic.{_⊎_, inl, inr}
-use mathlib.Core.List.{List, [], _∷_, List·Memᴰ, List·Memᴰ·head, List·Memᴰ·cases-cons, List·Memᴰ·not-nil, List·Memᴰ·eq-of-singleton}
+use mathlib.Core.List.{List, [], _∷_, List·Memᴰ, List·Memᴰ·cases-cons, List·Memᴰ·eq-of-singleton}
 use lib.ListN.{getD}
 use Rattle.record.specs.declared.Kind.the-variants.{Read, Write}
 use Rattle.record.specs.declared.Event.{Event}
-use Rattle.rules.specs.Paths.{Links}
+use Rattle.rules.specs.Paths.{Links, Part, done, skip, take}
 use Rattle.rules.specs.History.{Item, kept, into, since, Reached}
 use Rattle.rules.specs.Members.{OfAny}
 use Rattle.rules.specs.Forward.{ForwardTrace}
 use Rattle.rules.specs.MemberCases.{writtenPlain}
-use Rattle.causality.proofs.Strict.{Among}
 use Rattle.agreement.specs.Demand3.{ForwardAgrees}
 use Rattle.agreement.proofs.WorkedEvents.{event, computed}
 
@@ -21,23 +20,19 @@ items = kept (event Write 1 0 2) ∷ kept (event Read 0 1 1) ∷ []
 
 study-alone : Reached 0 2 items 1 → ⊥
 unfolding since into
-study-alone p = none (p .path) (p .links) (p .members)
+study-alone p = none (p .path) (p .order) (p .links)
   where
-    none : (es : List Event) → Links 0 1 es → Among es [] → ⊥
-    none [] k m = omega arith
-    none (e ∷ es) k m = List·Memᴰ·not-nil (m e (List·Memᴰ·head refl))
+    none : (p : List Event) → Part p [] → Links 0 1 p → ⊥
+    none p done l = omega arith
 
 other-alone : Reached 2 2 items 1 → ⊥
 unfolding since into
-other-alone p = none (p .path) (p .links) (p .members)
+other-alone p = none (p .path) (p .order) (p .links)
   where
-    none : (es : List Event) → Links 2 1 es → Among es (event Write 1 0 2 ∷ event Read 0 1 1 ∷ []) → ⊥
-    none [] k m = omega arith
-    none (e ∷ es) k m = go (List·Memᴰ·cases-cons (m e (List·Memᴰ·head refl)))
-      where
-        go : (e ≡ event Write 1 0 2) ⊎ List·Memᴰ e (event Read 0 1 1 ∷ []) → ⊥
-        go (inl q) = omega (arith, ap (λ (d : Event). d .source .0) q, k .0)
-        go (inr j) = omega (arith, ap (λ (d : Event). d .source .0) (List·Memᴰ·eq-of-singleton j), k .0)
+    none : (p : List Event) → Part p (event Write 1 0 2 ∷ event Read 0 1 1 ∷ []) → Links 2 1 p → ⊥
+    none p (take s) l = omega (arith, l .0)
+    none p (skip (take done)) l = omega (arith, l .1)
+    none p (skip (skip done)) l = omega arith
 
 pub subject-not-marked : {work marks : List ℕ} (f : ForwardTrace) → ForwardAgrees writtenPlain (0 ∷ 2 ∷ []) 2 work marks f → f .answer .refusal ≡ 0
     → getD (f .marks) 1 0 ≡ 1 → ⊥

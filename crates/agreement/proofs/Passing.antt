@@ -2,7 +2,7 @@
 use Prim.Native.Nat.{ℕ, _+_}
 use native.Mathlib.Omega.{arith}
 use mathlib.Core.Path.{_≡_, refl}
-use borrow.Author.Tests.{lt-leb, lt-ltb, eq-eqb, ne-eqb}
+use borrow.Author.Tests.{lt-leb, le-leb, eq-eqb, ne-eqb}
 use Rattle.refusals.specs.declared.Checked.the-variants.{Passed}
 use Rattle.refusals.specs.Refusals.{firstOf}
 use Rattle.refusals.proofs.Checks.{not-false-of, AllFalse, all-false-passed}
@@ -47,8 +47,8 @@ event-passes cap T e d p =
               (
                 p .unsigned,
                 (
-                  not-false-of _ (lt-ltb _ _ (p .later)),
-                  (lt-leb _ _ (p .accepted-left), room-passes cap (T .counts) d (p .room-left)),
+                  ne-eqb (e .time) 0 (λ q. omega (arith, p .positive)),
+                  (not-false-of _ (le-leb _ _ (p .not-earlier)), (lt-leb _ _ (p .accepted-left), room-passes cap (T .counts) d (p .room-left))),
                 ),
               ),
             ),

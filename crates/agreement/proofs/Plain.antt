@@ -1,4 +1,4 @@
--- A plain list whose records are taken in: its working is grown as the trace theorem asks, its rows are sound, times rise.
+-- A plain list whose records are taken in: its working is grown as the trace theorem asks, its rows are sound.
 use Prim.Native.Nat.{_<_}
 use native.Mathlib.Omega.{arith}
 use mathlib.Core.Path.{_≡_, refl, sym, subst}
@@ -22,9 +22,7 @@ use Rattle.soundness.proofs.Taken.{event-taken, signature-taken}
 use Rattle.soundness.proofs.Step.{step-rows, step-counts, fresh-rows, fresh-counts}
 use Rattle.soundness.proofs.TableStep.{counts-changed}
 use Rattle.causality.specs.Working.{lastOf, Fit, Grown}
-use Rattle.causality.specs.Order.{Falling}
 use Rattle.causality.proofs.Same.{grown-same}
-use Rattle.causality.proofs.Strict.{falling-next}
 use Rattle.agreement.specs.Taken.{greatest, Within, Taken, begun, next}
 use Rattle.agreement.proofs.Growing.{declares, repeats, widens, renews, repeat-may-drop, signs}
 
@@ -33,7 +31,6 @@ pub record Fine (T : Trail) (hs : List Item) : Type 0 where
   pub counted : CountFacts greatest (T .counts)
   pub grown : Grown T hs
   pub last : T .counts .last ≡ lastOf hs
-  pub falling : Falling (accepted hs)
 
 module _ (cap : Capacity) (w : Within cap) (T : Trail) (hs : List Item) (f : Fine T hs) where
   module _ (e : Event) where
@@ -42,8 +39,8 @@ module _ (cap : Capacity) (w : Within cap) (T : Trail) (hs : List Item) (f : Fin
       source-in = p .source-in;
       target-in = p .target-in;
       apart = p .apart;
-      later = omega (arith, p .later, f .last);
-      positive = omega (arith, p .later);
+      not-earlier = omega (arith, p .not-earlier, f .last);
+      positive = p .positive;
     }
 
     latest-some : e .target .0 < T .counts .entities → latestOf T (e .target .0) ≡ none → ⊥
@@ -59,11 +56,6 @@ module _ (cap : Capacity) (w : Within cap) (T : Trail) (hs : List Item) (f : Fin
     last-event Widen = refl
     last-event Renew = refl
 
-    falling-event : (d : Decision) → EventTaken cap T e d → Falling (accepted (itemOf d e ∷ hs))
-    falling-event (Repeat k) p = falling-next (f .grown) (f .falling) e (omega (arith, p .later, f .last))
-    falling-event Widen p = falling-next (f .grown) (f .falling) e (omega (arith, p .later, f .last))
-    falling-event Renew p = falling-next (f .grown) (f .falling) e (omega (arith, p .later, f .last))
-
 -- one record more
 
 counts-next : (cap : Capacity) → Within cap → (T : Trail) → CountFacts greatest (T .counts) → (r : Record) → refusalOf cap T r ≡ Passed
@@ -78,7 +70,6 @@ fine-next cap w rs f (records.Declaration d) s h = record {
   counted = counts-next cap w (worked rs) (f .counted) (records.Declaration d) h;
   grown = Grown.declared (f .grown) (declares (worked rs) d);
   last = f .last;
-  falling = f .falling;
 }
 fine-next cap w rs f (records.Event e) s h =
     let T = worked rs in
@@ -89,18 +80,16 @@ fine-next cap w rs f (records.Event e) s h =
       counted = counts-next cap w T (f .counted) (records.Event e) h;
       grown = grown-event cap w T (itemsOf rs) f e d refl p;
       last = last-event cap w T (itemsOf rs) f e d;
-      falling = falling-event cap w T (itemsOf rs) f e d p;
     }
 fine-next cap w rs f (records.Signature g) s h = record {
   rows = step-rows cap (worked rs) (records.Signature g) s h (f .rows);
   counted = counts-next cap w (worked rs) (f .counted) (records.Signature g) h;
   grown = grown-same (f .grown) (signs (worked rs) g (signature-taken (worked rs) g h));
   last = f .last;
-  falling = f .falling;
 }
 
 pub taken-fine : {rs : List Record} → Taken rs → Fine (worked rs) (itemsOf rs)
-taken-fine begun = record { rows = fresh-rows _ refl; counted = fresh-counts greatest; grown = Grown.begun refl refl refl; last = refl; falling = tt }
+taken-fine begun = record { rows = fresh-rows _ refl; counted = fresh-counts greatest; grown = Grown.begun refl refl refl; last = refl }
 taken-fine (next {rs = rs} t cap w r s h) = fine-next cap w rs (taken-fine t) r s h
 
 pub lastOf-accepted : (hs : List Item) → lastOf hs ≡ lastTime (accepted hs)

@@ -9,9 +9,9 @@ use lib.Dec.{eqb}
 use borrow.Author.Tests.{eq-eqb, ne-eqb}
 use Rattle.record.specs.declared.Event.{Event}
 use Rattle.rules.specs.Trail.{Trail, latestOf, ownerOf}
+use Rattle.rules.specs.Paths.{Part, take, done, All}
 use Rattle.rules.specs.History.{Item, keptEvents}
 use Rattle.causality.specs.Working.{ne, EdgeIn, lastOf, Grown}
-use Rattle.causality.specs.Order.{Part, take, done, All}
 use Rattle.causality.proofs.Declared.{OldEntity}
 use Rattle.causality.proofs.Entered.{NewEdge}
 use Rattle.causality.proofs.Kept.{NewLatest, kept-latest, latest-inj, w-unused}

@@ -12,7 +12,7 @@ use Rattle.rows.specs.declared.Counts.{Counts}
 use Rattle.record.specs.declared.Record.{Record}
 use Rattle.rules.specs.Trail.{Tables, capacityOf, Trail, trailOf}
 use Rattle.rules.specs.Sound.{isSound}
-use Rattle.rules.specs.Paths.{PathBy, PathFrom}
+use Rattle.rules.specs.Paths.{PathBy, PathAfter}
 use Rattle.rules.specs.History.{accepted, intakeTime, Reached}
 use Rattle.rules.specs.PlainList.{worked, itemsOf}
 use Rattle.rules.specs.Backward.{traceRefusals, traceChecks, BackwardTrace}
@@ -50,7 +50,7 @@ module _ (c : Counts) (t : Tables) (rs : List Record) (k : Known (trailOf c t) (
 
   backward-marks : (x time : ℕ) (work marks : List ℕ) → x < c .entities → (b : BackwardTrace) → BackwardTraced T x time work marks b
       → MarksAre (worked rs .counts .entities) (λ y. PathBy (accepted (itemsOf rs)) time y x) (b .marks) (b .answer .count)
-  backward-marks x time work marks i b z = marks-are (z .2) (λ y. Iff·trans marked-some (k .document01 .backward x time (z .0) y i (z .1)))
+  backward-marks x time work marks i b z = marks-are (z .2) (λ y. Iff·trans marked-some (k .faithful .backward x time (z .0) y i (z .1)))
 
   module _ (us : List ℕ) (time : ℕ) (work marks : List ℕ) (h : AllBelow (c .entities) us) where
     -- the start version of a member, and what is marked from it
@@ -63,11 +63,11 @@ module _ (c : Counts) (t : Tables) (rs : List Record) (k : Known (trailOf c t) (
         Iff·trans (λ z. (z .0, d (z .0) .0 (z .1), z .2), λ z. (z .0, d (z .0) .1 (z .1), z .2)) marked-some
 
     reached-from : (u : ℕ) → List·Memᴰ u us → (y : ℕ) → HasMarkedVersion T (MarkedFrom T time u) y ↔ Reached u time (itemsOf rs) y
-    reached-from u m y = Iff·trans (from-one u m y) (k .document01 .forward u time (startOf T u time) y (h u m) (start-of u m))
+    reached-from u m y = Iff·trans (from-one u m y) (k .faithful .forward u time (startOf T u time) y (h u m) (start-of u m))
 
     intake-of : (u : ℕ) → List·Memᴰ u us → (i : ℕ) → IntakeFrom T time u i ↔ (i ≡ intakeTime u time (itemsOf rs))
     intake-of u m i =
-        let q = k .document01 .intake u time (startOf T u time) (h u m) (start-of u m) in
+        let q = k .faithful .intake u time (startOf T u time) (h u m) (start-of u m) in
         let g = intake-from T (k .rows) (k .few) time u (h u m) i in
         (λ d. g .1 d ∙ q, λ e. g .0 (e ∙ sym q))
 
@@ -81,9 +81,9 @@ module _ (c : Counts) (t : Tables) (rs : List Record) (k : Known (trailOf c t) (
       forward-intake : IsEarliest us (λ u i. i ≡ intakeTime u time (itemsOf rs)) (f .answer .intake)
       forward-intake = earliest-same (λ i. ofAny-iff us (IntakeFrom T time) (λ u j. j ≡ intakeTime u time (itemsOf rs)) i (λ u m. intake-of u m i)) (λ q. q) (z .0)
 
-      forward-never-less : (y : ℕ) → OfAny us (PathFrom (accepted (itemsOf rs)) time) y → (y < worked rs .counts .entities) × (getD (f .marks) y 0 ≡ 1)
+      forward-never-less : (y : ℕ) → OfAny us (PathAfter (accepted (itemsOf rs)) time) y → (y < worked rs .counts .entities) × (getD (f .marks) y 0 ≡ 1)
       forward-never-less y (u, m, p) =
-          let d = from-one u m y .1 (k .document01 .never-less u time (startOf T u time) y (h u m) (start-of u m) p) in
+          let d = from-one u m y .1 (k .faithful .never-less u time (startOf T u time) y (h u m) (start-of u m) p) in
           let e = z .1 .entities .marked y .1 (owner-any T us (MarkedFrom T time) y .1 (u, m, d)) in
           (omega (arith, k .entities, e .0), e .1)
 

@@ -19,8 +19,9 @@ use Rattle.closure.proofs.StartVersion.{startOf-is}
 use Rattle.closure.proofs.Marks.{marks-ext}
 use Rattle.closure.proofs.Traces.{backward-marks, forward-marks, length-backwardEntities, length-forwardEntities, bits-backwardEntities, bits-forwardEntities}
 use Rattle.closure.proofs.Union.{owner-any}
-use Rattle.causality.specs.Order.{upTo}
 use Rattle.causality.proofs.Reach.{Reach, reach-path}
+use Rattle.causality.proofs.Parts.{upTo}
+use Rattle.causality.proofs.PathsBy.{causal-by}
 use Rattle.agreement.proofs.Held.{marked-some, Known}
 use Rattle.agreement.proofs.KeptOnly.{allKept, accepted-allKept, forward-kept, intakeTime-kept, backward-kept}
 
@@ -31,7 +32,8 @@ module _ {T : Trail} {n : ℕ} {hs : List Item} (k : Known T n hs) where
   backward-iff v t x h l =
       Iff·trans (backward-marks T (k .rows) v t x h l)
       (Iff·trans marked-some
-      (Iff·trans (k .faithful .backward v t (startOf T v t) x h (startOf-is T (k .rows) (k .few) v t h)) (Iff·symm (reach-path (upTo t (accepted hs)) x v))))
+      (Iff·trans (k .faithful .backward v t (startOf T v t) x h (startOf-is T (k .rows) (k .few) v t h))
+      (Iff·symm (Iff·trans (reach-path (upTo t (accepted hs)) x v) (causal-by t (accepted hs) x v)))))
 
   forward-iff : (us : List ℕ) (t y : ℕ) → AllBelow (T .counts .entities) us → y < T .counts .entities
       → getD (forwardEntities T us t) y 0 ≡ 1 ↔ OfAny us (λ u. Reach (since u t hs) u) y

@@ -99,7 +99,8 @@ module _ (cap : Capacity) {rs : List Record} (t : Taken rs) (u : Taken (unsigned
         source-fits = source-same (kindNo (e .kind)) _ _ (subjects t (e .source .0)) ∙ p .source-fits;
         target-fits = target-same (kindNo (e .kind)) _ _ (subjects t (e .target .0)) ∙ p .target-fits;
         unsigned = none-signed rs u (e .target .0) l;
-        later = let q = ap (λ (k : Counts). k .last) c in omega (arith, p .later);
+        positive = p .positive;
+        not-earlier = let q = ap (λ (k : Counts). k .last) c in omega (arith, p .not-earlier);
         accepted-left = let q = ap (λ (k : Counts). k .accepted) c in omega (arith, p .accepted-left);
         room-left =
             subst (λ (d : Decision). RoomLeft cap (T .counts) d) (sym (decision-alike (alike rs) e))

@@ -1,7 +1,7 @@
 -- The plain lists of the refutations, computed from the bytes of the files: the events accepted, kept or dropped, and how many entities.
 use Prim.Native.Nat.{ℕ}
 use mathlib.Core.Path.{_≡_, refl}
-use mathlib.Core.List.{List, [], _∷_}
+use mathlib.Core.List.{List, [], _∷_, map}
 use Rattle.refusals.specs.Refusals.{firstOf}
 use Rattle.rows.specs.Rows.{entityNo, entityAt, versionAt, edgeAt}
 use Rattle.rows.specs.Capacity.{entityCapacity, versionCapacity, edgeCapacity}
@@ -18,6 +18,7 @@ use Rattle.rules.specs.Batch.{readFrom, contentsOf}
 use Rattle.rules.specs.History.{Item, kept, dropped}
 use Rattle.rules.specs.PlainList.{put, worked, itemsOf, added, addedBy}
 use Rattle.rules.specs.MemberCases.{writtenPlain}
+use Rattle.rules.specs.TickCases.{readWrite, writeRead, readBack, turns, plainOf}
 use Rattle.rules.specs.KeptLog.{signedIn}
 use Rattle.agreement.specs.Refuted.{workedPlain, longerPlain}
 
@@ -37,7 +38,12 @@ pub record Computed : Type 0 where
   pub entities : worked longerPlain .counts .entities ≡ 4
   pub written : itemsOf writtenPlain ≡ kept (event Write 1 0 2) ∷ kept (event Read 0 1 1) ∷ []
   pub written-entities : worked writtenPlain .counts .entities ≡ 3
+  pub read-write : itemsOf (plainOf readWrite) ≡ kept (event Write 1 2 1) ∷ kept (event Read 0 1 1) ∷ []
+  pub write-read : itemsOf (plainOf writeRead) ≡ kept (event Read 0 1 1) ∷ kept (event Write 1 2 1) ∷ []
+  pub read-back : itemsOf (plainOf readBack) ≡ kept (event Write 1 0 1) ∷ kept (event Read 0 1 1) ∷ []
+  pub by-turns : itemsOf (plainOf turns) ≡ kept (event Write 1 0 1) ∷ kept (event Read 0 1 1) ∷ kept (event Write 1 0 1) ∷ kept (event Read 0 1 1) ∷ []
+  pub tick-entities : map (λ bytes. worked (plainOf bytes) .counts .entities) (readWrite ∷ writeRead ∷ readBack ∷ turns ∷ []) ≡ 4 ∷ 4 ∷ 4 ∷ 4 ∷ []
 
 pub computed : Computed
 unfolding firstOf entityAt versionAt edgeAt entityCapacity versionCapacity edgeCapacity kindOf headerChecks zeroChecks declarationChecks eventChecks decodeOf decodeFrom isObject isSubject isSigned sumBelow sourceFits targetFits mayFollow goesTo newestTo leaves repeatOf hasOutgoing decisionOf declarationRefusals earlyRefusals roomRefusals eventRefusals refusalOf changeOf readFrom contentsOf put added addedBy
-computed = record { items = refl; longer = refl; unsigned = refl; entities = refl; written = refl; written-entities = refl }
+computed = record { items = refl; longer = refl; unsigned = refl; entities = refl; written = refl; written-entities = refl; read-write = refl; write-read = refl; read-back = refl; by-turns = refl; tick-entities = refl }

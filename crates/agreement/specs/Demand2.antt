@@ -1,6 +1,6 @@
 -- Demand 2, of every list of calls: the tables are those that the plain list gives when worked from none. The working
 -- (`worked`) is the version building of the paper's section 4 under document 01's rules, with the counts of document 02, 2.1,
--- and the signatures of 2.4.
+-- the signatures of 2.4 and the times of 2.5.
 use Prim.Native.Nat.{ℕ, _+_, _≤_, _<_}
 use mathlib.Core.Path.{_≡_}
 use mathlib.Core.Logic.{_↔_}

@@ -1,4 +1,5 @@
--- Document 01, "Traces": demand 3, a single claim about a list of calls. To be read beside that section.
+-- Document 01, "Traces": demand 3, a single claim about a list of calls. To be read beside that section; document 02, 2.5: "The traces agree
+-- with the full list under that order", the order of acceptance.
 -- The plain list of the calls, and with it the accepted and the kept events, is computed from the calls alone.
 use Prim.Native.Nat.{ℕ, _<_}
 use mathlib.Core.Path.{_≡_}
@@ -8,7 +9,7 @@ use lib.ListN.{getD}
 use Rattle.refusals.specs.Refusals.{firstOf, numberOf}
 use Rattle.record.specs.declared.Event.{Event}
 use Rattle.record.specs.declared.Record.{Record}
-use Rattle.rules.specs.Paths.{PathBy, PathFrom, Gains}
+use Rattle.rules.specs.Paths.{PathBy, PathAfter, Gains}
 use Rattle.rules.specs.History.{Item, dropped, accepted, intakeTime, Reached}
 use Rattle.rules.specs.PlainList.{worked, itemsOf}
 use Rattle.rules.specs.Backward.{traceRefusals, BackwardTrace, backwardOf}
@@ -26,21 +27,22 @@ pub record MarksAre (n : ℕ) (M : ℕ → Type 0) (marks : List ℕ) (count : �
 -- What a trace, lent work and marks after the records rs, returned and left. "In such a list a trace is refused only with 5 or 14": if, by
 -- the plain list, an entity is not declared, or a buffer is shorter than its count.
 
--- Backward from v at a time: if not refused, exactly the entities with a causal path to v in by then are marked
+-- Backward from v at a time: if not refused, exactly the entities with a causal path to v in by then are marked. Document 02, 2.5: "Backward
+-- at t counts every event with time ≤ t."
 pub record BackwardAgrees (rs : List Record) (v time : ℕ) (work marks : List ℕ) (b : BackwardTrace) : Type 0 where
   pub refusal : b .answer .refusal ≡ numberOf (firstOf (traceRefusals (worked rs .counts) (v ∷ []) work marks))
   pub marks-are : b .answer .refusal ≡ 0 → MarksAre (worked rs .counts .entities) (λ x. PathBy (accepted (itemsOf rs)) time x v) (b .marks) (b .answer .count)
 
 -- Forward from the members of a list at a time: if not refused, exactly the entities reached from one of them are marked, from each by its own
 -- latest kept intake at or before the time, or from time 0 if it has none; the intake given is the earliest of the members', where a member's
--- is the time of that kept intake, 0 if it has none, and 0 for an empty list; never less than the full log's answers at the time, taken
--- together. Document 02, 2.2: "The full-log statement holds for the list too."
+-- is the time of that kept intake, 0 if it has none, and 0 for an empty list; never less than the full answers over events later than the
+-- time, taken together. Document 02, 2.2: "The full-log statement holds for the list too."
 pub record ForwardAgrees (rs : List Record) (us : List ℕ) (time : ℕ) (work marks : List ℕ) (f : ForwardTrace) : Type 0 where
   pub refusal : f .answer .refusal ≡ numberOf (firstOf (traceRefusals (worked rs .counts) us work marks))
   pub marks-are : f .answer .refusal ≡ 0
       → MarksAre (worked rs .counts .entities) (OfAny us (λ u. Reached u time (itemsOf rs))) (f .marks) (f .answer .count)
   pub intake-is : f .answer .refusal ≡ 0 → IsEarliest us (λ u i. i ≡ intakeTime u time (itemsOf rs)) (f .answer .intake)
-  pub never-less : f .answer .refusal ≡ 0 → (y : ℕ) → OfAny us (PathFrom (accepted (itemsOf rs)) time) y
+  pub never-less : f .answer .refusal ≡ 0 → (y : ℕ) → OfAny us (PathAfter (accepted (itemsOf rs)) time) y
       → (y < worked rs .counts .entities) × (getD (f .marks) y 0 ≡ 1)
 
 -- each trace of the list agrees with the records taken in before it

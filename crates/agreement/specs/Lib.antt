@@ -9,5 +9,6 @@ pub mod OneEntity
 pub mod RoundTrip
 -- wrong answers that the claims rule out
 pub mod Refuted
+pub mod Ticks
 -- what the public calls carry of them
 pub mod Promises

@@ -6,9 +6,10 @@ use mathlib.Core.Logic.{inl, inr}
 use mathlib.Core.List.{List, [], _∷_}
 use Rattle.record.specs.declared.Event.{Event}
 use Rattle.rules.specs.Trail.{Trail}
+use Rattle.rules.specs.Paths.{All}
 use Rattle.rules.specs.History.{Item, accepted}
 use Rattle.causality.specs.Working.{ne, lastOf, Fit, Grown}
-use Rattle.causality.specs.Order.{All}
+use Rattle.causality.specs.Times.{Ordered}
 use Rattle.causality.proofs.Growth.{grown-ind, OnDeclared, OnDropped, OnKept}
 use Rattle.causality.proofs.Reach.{Reach, All-imp}
 
@@ -17,11 +18,6 @@ pub record Within (n last : ℕ) (e : Event) : Type 0 where
   pub target-in : e .target .0 < n
   pub positive : 1 ≤ e .time
   pub by : e .time ≤ last
-
--- times do not fall
-abbrev pub Ordered : List Event → Type 0
-Ordered [] = Unit {0}
-Ordered (e ∷ es) = All (λ d. d .time ≤ e .time) es × Ordered es
 
 abbrev Events : Trail → List Item → Type 0
 Events T hs = All (Within (ne T) (lastOf hs)) (accepted hs) × Ordered (accepted hs)
@@ -38,9 +34,9 @@ grown-events g = grown-ind Events (λ T _ _ _. (tt, tt)) decl drop keep g
     add n T hs e f q o = (
       (
         record { source-in = omega (arith, f .source-in); target-in = omega (arith, f .target-in); positive = f .positive; by = omega arith },
-        All-imp (more (omega arith) (f .later)) (accepted hs) (o .0),
+        All-imp (more (omega arith) (f .not-earlier)) (accepted hs) (o .0),
       ),
-      (All-imp (λ d w. omega (arith, w .by, f .later)) (accepted hs) (o .0), o .1),
+      (All-imp (λ d w. omega (arith, w .by, f .not-earlier)) (accepted hs) (o .0), o .1),
     )
 
     decl : OnDeclared Events

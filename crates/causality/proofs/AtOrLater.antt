@@ -1,20 +1,20 @@
--- With strictly rising times, a path from u through events at t or later uses none that was accepted before the latest kept
--- intake of u at or before t: an event at t or later that is no such intake was accepted after it.
+-- With strictly rising times, a causal path from u through events at t or later uses none that was accepted before the latest kept intake of u
+-- at or before t: the events before the intake are earlier than t, and the intake does not leave u.
 use Prim.Native.Nat.{ℕ, _≤_, _<_}
 use native.Mathlib.Omega.{arith}
-use mathlib.Core.Path.{_≡_, refl, sym, _∙_}
-use mathlib.Core.Logic.{_⊎_, inl, inr}
+use mathlib.Core.Path.{_≡_, sym, _∙_, subst}
+use mathlib.Core.Logic.{inl, inr}
 use mathlib.Core.Bool.{cond}
-use mathlib.Core.List.{List, [], _∷_, List·Memᴰ, List·Memᴰ·head, List·Memᴰ·tail, List·Memᴰ·cases-cons, List·Memᴰ·not-nil}
+use mathlib.Core.List.{List, [], _∷_}
 use Rattle.record.specs.declared.Event.{Event}
 use Rattle.rules.specs.Trail.{Trail}
-use Rattle.rules.specs.Paths.{Links, Rising, CausalPath, PathFrom}
-use Rattle.rules.specs.History.{Item, kept, dropped, accepted, into, since}
+use Rattle.rules.specs.Paths.{Links, Part, done, skip, take, CausalPath, All}
+use Rattle.rules.specs.History.{Item, kept, dropped, accepted, into, since, Reached}
 use Rattle.causality.specs.Working.{Grown}
-use Rattle.causality.specs.Order.{All, Falling}
+use Rattle.causality.specs.Times.{Strict}
 use Rattle.causality.proofs.Growth.{grown-ind}
+use Rattle.causality.proofs.Reach.{part-none}
 use Rattle.causality.proofs.Parts.{IntoCase, into-cases}
-use Rattle.causality.proofs.Strict.{Among, among-nil, among-cons, all-mem}
 
 -- no event leads from an entity to itself
 abbrev Apart : Event → Type 0
@@ -25,44 +25,30 @@ grown-apart g =
     grown-ind (λ T hs. All Apart (accepted hs)) (λ T _ _ _. tt) (λ T T′ hs g d o. o) (λ T hs e g f r o. (f .apart, o)) (λ T T′ hs e w g k o. (k .fit .apart, o)) g
 
 module _ (u t : ℕ) where
-  accepted-since : (hs : List Item) → Falling (accepted hs) → {d : Event} → List·Memᴰ d (accepted hs) → t ≤ d .time
-      → (d .target .0 ≡ u → d .time ≤ t → ⊥) → List·Memᴰ d (since u t hs)
+  abbrev From : List Event → Type 0
+  From = All (λ e. t ≤ e .time)
+
+  from-part : (hs : List Item) → Strict (accepted hs) → All Apart (accepted hs) → (y : ℕ) (p : List Event) → Part p (accepted hs) → Links u y p → From p
+      → Part p (since u t hs)
   unfolding since
-  accepted-since [] f m l n = absurd (List·Memᴰ·not-nil m)
-  accepted-since (dropped e ∷ hs) f {d} m l n = go (List·Memᴰ·cases-cons m) (λ k. accepted-since hs (f .1) k l n)
+  from-part [] f o y p done l a = done
+  from-part (dropped e ∷ hs) f o y p (skip s) l a = skip (from-part hs (f .1) (o .1) y p s l a)
+  from-part (dropped e ∷ hs) f o y p (take {p = c} s) l a = take (from-part hs (f .1) (o .1) (e .source .0) c s (l .1) (a .1))
+  from-part (kept e ∷ hs) f o y p s l a = go (into-cases u t e) p s l a (from-part hs (f .1) (o .1))
     where
-      go : (d ≡ e) ⊎ List·Memᴰ d (accepted hs) → (List·Memᴰ d (accepted hs) → List·Memᴰ d (since u t hs)) → List·Memᴰ d (e ∷ since u t hs)
-      go (inl q) ih = List·Memᴰ·head q
-      go (inr k) ih = List·Memᴰ·tail (ih k)
-  accepted-since (kept e ∷ hs) f {d} m l n = go (into-cases u t e) (List·Memᴰ·cases-cons m) (λ k. accepted-since hs (f .1) k l n)
-    where
-      go : IntoCase u t e → (d ≡ e) ⊎ List·Memᴰ d (accepted hs) → (List·Memᴰ d (accepted hs) → List·Memᴰ d (since u t hs))
-          → List·Memᴰ d (cond (into u t e) [] (e ∷ since u t hs))
-      go (inl c) (inl q) ih = absurd (n (rw q (c .0)) (rw q (c .1)))
-      go (inl c) (inr k) ih = let h : d .time < e .time = all-mem (λ x. x .time < e .time) (accepted hs) (f .0) k in absurd (omega (arith, c .1))
-      go (inr c) (inl q) ih = rw (c .1) (List·Memᴰ·head q)
-      go (inr c) (inr k) ih = rw (c .1) (List·Memᴰ·tail (ih k))
+      -- of the events accepted before the intake e
+      none : e .time ≤ t → (c : List Event) → Part c (accepted hs) → From c → c ≡ []
+      none h c r b = part-none (λ d. d .time < e .time) (λ d. t ≤ d .time) (λ d k m. omega arith) r (f .0) b
 
-  module _ (hs : List Item) (f : Falling (accepted hs)) where
-    -- the events of a path after one at t or later are later than t
-    rest-since : (e : Event) (p : List Event) → t ≤ e .time → Rising (e ∷ p) → Among p (accepted hs) → Among p (since u t hs)
-    rest-since e [] l r a = among-nil
-    rest-since e (d ∷ p) l r a =
-        among-cons (accepted-since hs f (a d (List·Memᴰ·head refl)) (omega (arith, r .0)) (λ q b. omega (arith, r .0)))
-        (rest-since d p (omega (arith, r .0)) (r .1) (λ x m. a x (List·Memᴰ·tail m)))
+      go : IntoCase u t e → (p : List Event) → Part p (e ∷ accepted hs) → Links u y p → From p
+          → ((z : ℕ) (c : List Event) → Part c (accepted hs) → Links u z c → From c → Part c (since u t hs)) → Part p (cond (into u t e) [] (e ∷ since u t hs))
+      go (inl c) p (skip r) l a ih = rw (c .2, none (c .1) p r a) done
+      go (inl c) p (take {p = d} r) l a ih =
+          let m : u ≡ e .source .0 = subst (Links u (e .source .0)) (none (c .1) d r (a .1)) (l .1) in
+          absurd (o .0 (sym m ∙ sym (c .0)))
+      go (inr c) p (skip r) l a ih = rw (c .1) (skip (ih y p r l a))
+      go (inr c) p (take {p = d} r) l a ih = rw (c .1) (take (ih (e .source .0) d r (l .1) (a .1)))
 
-    path-since : All Apart (accepted hs) → (y : ℕ) (p : List Event) → Links u y p → Rising p → Among p (accepted hs)
-        → ((e : Event) → List·Memᴰ e p → t ≤ e .time) → Among p (since u t hs)
-    path-since o y [] k r a b = among-nil
-    path-since o y (e ∷ p) k r a b =
-        let m = a e (List·Memᴰ·head refl) in
-        let l = b e (List·Memᴰ·head refl) in
-        among-cons (accepted-since hs f m l (λ q _. all-mem Apart (accepted hs) o m (k .0 ∙ sym q))) (rest-since e p l r (λ x n. a x (List·Memᴰ·tail n)))
-
-pub from-since : {T : Trail} {hs : List Item} → Grown T hs → Falling (accepted hs) → (u t y : ℕ) → PathFrom (accepted hs) t u y → CausalPath (since u t hs) u y
-from-since {hs = hs} g f u t y (c, b) = record {
-  path = c .path;
-  links = c .links;
-  rising = c .rising;
-  members = path-since u t hs f (grown-apart g) y (c .path) (c .links) (c .rising) (c .members) b;
-}
+pub from-since : {T : Trail} {hs : List Item} → Grown T hs → Strict (accepted hs) → (u t y : ℕ) (p : CausalPath (accepted hs) u y)
+    → All (λ e. t ≤ e .time) (p .path) → Reached u t hs y
+from-since {hs = hs} g f u t y p a = record { path = p .path; links = p .links; order = from-part u t hs f (grown-apart g) y (p .path) (p .order) (p .links) a }

@@ -9,12 +9,11 @@ use Rattle.rules.specs.Trail.{Trail, latestOf, ownerOf}
 use Rattle.rules.specs.History.{Item, accepted}
 use Rattle.rules.specs.Backward.{BackwardMarks, start, intoStart, intoOther, previous}
 use Rattle.causality.specs.Working.{ne, nv, previousOf, EntityMarked, lastOf, Grown}
-use Rattle.causality.specs.Order.{upTo}
 use Rattle.causality.proofs.Declared.{OldEntity, Declared}
 use Rattle.causality.proofs.Invariant.{Inv, inv-declared}
 use Rattle.causality.proofs.Growth.{inv, grown-ind, OnDropped, OnKept}
 use Rattle.causality.proofs.Reach.{Reach, All-imp, reach-refl, reach-part, reach-never}
-use Rattle.causality.proofs.Parts.{upTo-out, upTo-all, upTo-part}
+use Rattle.causality.proofs.Parts.{upTo, upTo-out, upTo-all, upTo-part}
 use Rattle.causality.proofs.Accepted.{grown-within}
 use Rattle.causality.proofs.Walk.{StartsAt, walk-last, starts-in, starts-back, walk-declared}
 use Rattle.causality.proofs.ForwardMarks.{edge-at}

@@ -14,7 +14,7 @@ use Rattle.causality.proofs.KeptInvariant.{inv-kept}
 pub inv : {T : Trail} {hs : List Item} → Grown T hs → Inv T (lastOf hs)
 inv (begun e v d) = inv-begun e v d
 inv (declared g d) = inv-declared (inv g) (declared-facts d)
-inv (repeated g e f l) = inv-later (e .time) (f .later) (inv g)
+inv (repeated g e f l) = inv-later (e .time) (f .not-earlier) (inv g)
 inv (entered g e f w r) = inv-kept (kept-facts (inv g) f r)
 
 abbrev pub OnBegun : (Trail → List Item → Type 0) → Type 0

@@ -81,7 +81,7 @@ timed-kept T T′ hs e w g k ih u t s h r = go (into-cases u t e)
 
         not-w : s ≡ w → e .time ≤ t → NewLatest T T′ e w u → ⊥
         not-w q l (inl c) = n (sym (c .0)) l
-        not-w q l (inr c) = w-other k u m (c .0) (walk-last (omega (arith, k .was .start-in _ (c .2), k .fit .later)) z ∙ q)
+        not-w q l (inr c) = w-other k u m (c .0) (walk-last (omega (arith, k .was .start-in _ (c .2), k .fit .not-earlier)) z ∙ q)
 
         new : (a x : ℕ) → x ≤ t → NewEdge T e w a s x → EdgeIn T a s x
         new a x l (inl o) = o

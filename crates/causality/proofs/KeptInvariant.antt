@@ -24,7 +24,7 @@ module _ {T T′ : Trail} {last : ℕ} {e : Event} {w : ℕ} (k : Kept T T′ la
   kept-owner-in a (inr c) = omega (arith, ap (ownerOf T′) (c .0), k .now .owner-w, k .now .row .ne-is, k .fit .target-in)
 
   kept-start-in : (a : ℕ) → NewVersion T w a → startTime T′ a ≤ e .time
-  kept-start-in a (inl h) = omega (arith, k .now .start-old a h, k .was .start-in a h, k .fit .later)
+  kept-start-in a (inl h) = omega (arith, k .now .start-old a h, k .was .start-in a h, k .fit .not-earlier)
   kept-start-in a (inr c) = omega (arith, ap (startTime T′) (c .0), new-shape k (c .1) .start)
 
   kept-from-in : {a b t : ℕ} → NewEdge T e w a b t → a < nv T
@@ -36,7 +36,7 @@ module _ {T T′ : Trail} {last : ℕ} {e : Event} {w : ℕ} (k : Kept T T′ la
   kept-to-in (inr c) = omega (arith, c .1, k .now .w-in)
 
   kept-time-in : {a b t : ℕ} → NewEdge T e w a b t → t ≤ e .time
-  kept-time-in (inl h) = omega (arith, k .was .time-in h, k .fit .later)
+  kept-time-in (inl h) = omega (arith, k .was .time-in h, k .fit .not-earlier)
   kept-time-in (inr c) = omega (arith, c .2)
 
   kept-prev-less : (a b : ℕ) → NewPrev T e w a b → a < b
@@ -56,7 +56,7 @@ module _ {T T′ : Trail} {last : ℕ} {e : Event} {w : ℕ} (k : Kept T T′ la
         ap (startTime T′) (c .0),
         k .now .start-old _ (target-now k),
         k .was .start-in _ (target-now k),
-        k .fit .later,
+        k .fit .not-earlier,
         ap (startTime T′) (c .1),
         new-shape k (c .2) .start,
       )

@@ -3,17 +3,15 @@ use Prim.Native.Nat.{ℕ, _≤_, _<_}
 use native.Mathlib.Omega.{arith}
 use mathlib.Core.Path.{_≡_, refl, _∙_}
 use mathlib.Core.Logic.{_⊎_, inl, inr}
-use mathlib.Core.Bool.{Bool, true, false, cond}
+use mathlib.Core.Bool.{cond}
 use mathlib.Core.List.{List, [], _∷_, _++_}
-use lib.Dec.{leb}
-use borrow.Author.Tests.{le-leb}
 use Rattle.record.specs.declared.Event.{Event}
+use Rattle.rules.specs.Paths.{Part, done, skip, take, All}
 use Rattle.rules.specs.History.{Item, kept, dropped, accepted, into, since}
 use Rattle.causality.specs.Working.{lastOf}
-use Rattle.causality.specs.Order.{Part, done, skip, take, upTo, above, All}
-use Rattle.causality.proofs.Reach.{All-imp}
-use Rattle.causality.proofs.Parts.{IntoCase, into-cases, upTo-out}
-use Rattle.causality.proofs.Accepted.{Ordered}
+use Rattle.causality.specs.Times.{Ordered}
+use Rattle.causality.proofs.Reach.{All-imp, part-none}
+use Rattle.causality.proofs.Parts.{IntoCase, into-cases, upTo, upTo-out}
 
 last-le : (n : ℕ) (more hs : List Item) → All (λ d. d .time ≤ n) (accepted (more ++ hs)) → lastOf hs ≤ n
 last-le n [] [] a = omega arith
@@ -34,30 +32,20 @@ pub upTo-same : (t : ℕ) (more hs : List Item) → Ordered (accepted (more ++ h
 upTo-same t more hs o (inl l) = upTo-more t more hs o l
 upTo-same t more hs o (inr q) = rw q
 
--- the events later than t
-above-out : (t : ℕ) (e : Event) (es : List Event) → e .time ≤ t → above t (e ∷ es) ≡ above t es
-unfolding above
-above-out t e es l = rw (le-leb (e .time) t l)
-
-above-none : (t : ℕ) (es : List Event) → All (λ e. e .time ≤ t) es → above t es ≡ []
-above-none t [] a = unfold above in refl
-above-none t (e ∷ es) a = above-out t e es (a .0) ∙ above-none t es (a .1)
-
-above-next : (t : ℕ) (e : Event) {c es : List Event} → Part c es → Part (cond (leb (e .time) t) c (e ∷ c)) (e ∷ es)
-above-next t e {c} {es} s = go (leb (e .time) t)
+-- events later than t are all after the latest kept intake by t
+pub after-since : (u t : ℕ) (hs : List Item) → Ordered (accepted hs) → (p : List Event) → Part p (accepted hs) → All (λ e. t < e .time) p
+    → Part p (since u t hs)
+unfolding since
+after-since u t [] o p done a = done
+after-since u t (dropped e ∷ hs) o p (skip s) a = skip (after-since u t hs (o .1) p s a)
+after-since u t (dropped e ∷ hs) o p (take {p = c} s) a = take (after-since u t hs (o .1) c s (a .1))
+after-since u t (kept e ∷ hs) o p s a = go (into-cases u t e) p s a (after-since u t hs (o .1))
   where
-    go : (b : Bool) → Part (cond b c (e ∷ c)) (e ∷ es)
-    go true = skip s
-    go false = take s
+    none : e .time ≤ t → (p : List Event) → Part p (e ∷ accepted hs) → All (λ d. t < d .time) p → p ≡ []
+    none l p r a = part-none (λ d. d .time ≤ t) (λ d. t < d .time) (λ d k m. omega arith) r (l, All-imp (λ d k. omega (arith, k)) (accepted hs) (o .0)) a
 
--- they are all after the latest kept intake by t
-pub above-since : (u t : ℕ) (hs : List Item) → Ordered (accepted hs) → Part (above t (accepted hs)) (since u t hs)
-unfolding above since
-above-since u t [] o = done
-above-since u t (dropped e ∷ hs) o = above-next t e (above-since u t hs (o .1))
-above-since u t (kept e ∷ hs) o = by (into-cases u t e) (above-since u t hs (o .1))
-  where
-    by : IntoCase u t e → Part (above t (accepted hs)) (since u t hs)
-        → Part (cond (leb (e .time) t) (above t (accepted hs)) (e ∷ above t (accepted hs))) (cond (into u t e) [] (e ∷ since u t hs))
-    by (inl c) s = rw (c .2, le-leb (e .time) t (c .1), above-none t (accepted hs) (All-imp (λ d k. omega (arith, c .1)) (accepted hs) (o .0))) done
-    by (inr c) s = rw (c .1) (above-next t e s)
+    go : IntoCase u t e → (p : List Event) → Part p (e ∷ accepted hs) → All (λ d. t < d .time) p
+        → ((c : List Event) → Part c (accepted hs) → All (λ d. t < d .time) c → Part c (since u t hs)) → Part p (cond (into u t e) [] (e ∷ since u t hs))
+    go (inl c) p r a ih = rw (c .2, none (c .1) p r a) done
+    go (inr c) p (skip r) a ih = rw (c .1) (skip (ih p r a))
+    go (inr c) p (take {p = d} r) a ih = rw (c .1) (take (ih d r (a .1)))

@@ -8,9 +8,9 @@ use mathlib.Core.List.{List, [], _∷_}
 use lib.Dec.{leb}
 use borrow.Author.Tests.{leb-true, le-leb}
 use Rattle.record.specs.declared.Event.{Event}
+use Rattle.rules.specs.Paths.{Part, done, skip, take, All}
 use Rattle.rules.specs.History.{Item, kept, dropped, accepted, into, since, intakeTime}
 use Rattle.rules.proofs.Intake.{by-cases}
-use Rattle.causality.specs.Order.{Part, done, skip, take, upTo, All}
 use Rattle.causality.proofs.Reach.{part-nil}
 
 -- an event enters u by t, or it does not
@@ -22,7 +22,11 @@ pub into-cases : (u t : ℕ) (e : Event) → IntoCase u t e
 unfolding into
 into-cases u t e = by-cases (e .target .0) u (e .time) t
 
--- the events by t
+-- the events with time ≤ t
+unfoldable pub upTo : ℕ → List Event → List Event
+upTo t [] = []
+upTo t (e ∷ es) = cond (leb (e .time) t) (e ∷ upTo t es) (upTo t es)
+
 pub upTo-in : (t : ℕ) (e : Event) (es : List Event) → e .time ≤ t → upTo t (e ∷ es) ≡ e ∷ upTo t es
 unfolding upTo
 upTo-in t e es l = rw (le-leb (e .time) t l)

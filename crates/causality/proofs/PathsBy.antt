@@ -2,44 +2,46 @@
 use Prim.Native.Nat.{ℕ, _≤_}
 use native.Mathlib.Omega.{arith}
 use native.Mathlib.Decide.{decLe}
-use mathlib.Core.Path.{_≡_, subst}
-use mathlib.Core.Logic.{_⊎_, inl, inr, _↔_}
-use mathlib.Core.List.{List, [], _∷_, List·Memᴰ, List·Memᴰ·head, List·Memᴰ·tail, List·Memᴰ·cases-cons, List·Memᴰ·not-nil}
+use mathlib.Core.Path.{subst}
+use mathlib.Core.Logic.{_↔_}
+use mathlib.Core.List.{List, [], _∷_}
 use Rattle.record.specs.declared.Event.{Event}
-use Rattle.rules.specs.Paths.{CausalPath, PathBy}
-use Rattle.causality.specs.Order.{upTo}
-use Rattle.causality.proofs.Parts.{upTo-in, upTo-out}
+use Rattle.rules.specs.Paths.{Part, done, skip, take, CausalPath, All, PathBy}
+use Rattle.causality.proofs.Parts.{upTo, upTo-in, upTo-out}
 
-upTo-mem : (t : ℕ) (es : List Event) (e : Event) → List·Memᴰ e (upTo t es) → List·Memᴰ e es × (e .time ≤ t)
-upTo-mem t [] e m = let k : List·Memᴰ e [] = unfold upTo in m in absurd (List·Memᴰ·not-nil k)
-upTo-mem t (d ∷ es) e m = go (decLe (d .time) t) (λ k. upTo-mem t es e k)
-  where
-    by : d .time ≤ t → (e ≡ d) ⊎ List·Memᴰ e (upTo t es) → (List·Memᴰ e (upTo t es) → List·Memᴰ e es × (e .time ≤ t)) → List·Memᴰ e (d ∷ es) × (e .time ≤ t)
-    by l (inl q) ih = (List·Memᴰ·head q, rw q l)
-    by l (inr k) ih = let o = ih k in (List·Memᴰ·tail (o .0), o .1)
+module _ (t : ℕ) where
+  abbrev By : List Event → Type 0
+  By = All (λ e. e .time ≤ t)
 
-    go : Dec (d .time ≤ t) → (List·Memᴰ e (upTo t es) → List·Memᴰ e es × (e .time ≤ t)) → List·Memᴰ e (d ∷ es) × (e .time ≤ t)
-    go (yes l) ih = by l (List·Memᴰ·cases-cons (subst (λ z. List·Memᴰ e z) (upTo-in t d es l) m)) ih
-    go (no l) ih = let o = ih (subst (λ z. List·Memᴰ e z) (upTo-out t d es (omega arith)) m) in (List·Memᴰ·tail (o .0), o .1)
+  part-by : (es p : List Event) → Part p (upTo t es) → Part p es × By p
+  part-by [] p s = go p (unfold upTo in s)
+    where
+      go : (p : List Event) → Part p [] → Part p [] × By p
+      go p done = (done, tt)
+  part-by (e ∷ es) p s = go (decLe (e .time) t) (part-by es)
+    where
+      in-by : e .time ≤ t → ((c : List Event) → Part c (upTo t es) → Part c es × By c) → (c : List Event) → Part c (e ∷ upTo t es) → Part c (e ∷ es) × By c
+      in-by l ih c (skip r) = let o = ih c r in (skip (o .0), o .1)
+      in-by l ih c (take {p = d} r) = let o = ih d r in (take (o .0), (l, o .1))
 
-mem-upTo : (t : ℕ) (es : List Event) (e : Event) → List·Memᴰ e es → e .time ≤ t → List·Memᴰ e (upTo t es)
-mem-upTo t [] e m l = absurd (List·Memᴰ·not-nil m)
-mem-upTo t (d ∷ es) e m l = go (decLe (d .time) t) (List·Memᴰ·cases-cons m) (λ k. mem-upTo t es e k l)
-  where
-    go : Dec (d .time ≤ t) → (e ≡ d) ⊎ List·Memᴰ e es → (List·Memᴰ e es → List·Memᴰ e (upTo t es)) → List·Memᴰ e (upTo t (d ∷ es))
-    go (yes k) (inl q) ih = rw (upTo-in t d es k) (List·Memᴰ·head q)
-    go (yes k) (inr m) ih = rw (upTo-in t d es k) (List·Memᴰ·tail (ih m))
-    go (no k) (inl q) ih = let z : d .time ≤ t = rw q at l in absurd (k z)
-    go (no k) (inr m) ih = rw (upTo-out t d es (omega arith)) (ih m)
+      go : Dec (e .time ≤ t) → ((c : List Event) → Part c (upTo t es) → Part c es × By c) → Part p (e ∷ es) × By p
+      go (yes l) ih = in-by l ih p (subst (Part p) (upTo-in t e es l) s)
+      go (no l) ih = let o = ih p (subst (Part p) (upTo-out t e es (omega arith)) s) in (skip (o .0), o .1)
 
-pub causal-by : (t : ℕ) (es : List Event) (x y : ℕ) → CausalPath (upTo t es) x y ↔ PathBy es t x y
-causal-by t es x y = (to, from)
-  where
-    to : CausalPath (upTo t es) x y → PathBy es t x y
-    to p = (
-      record { path = p .path; links = p .links; rising = p .rising; members = λ e k. upTo-mem t es e (p .members e k) .0 },
-      λ e k. upTo-mem t es e (p .members e k) .1,
-    )
+  by-part : {p es : List Event} → Part p es → By p → Part p (upTo t es)
+  by-part done b = unfold upTo in done
+  by-part (skip {e = e} {p = p} {es = es} s) b = go (decLe (e .time) t) (by-part s b)
+    where
+      go : Dec (e .time ≤ t) → Part p (upTo t es) → Part p (upTo t (e ∷ es))
+      go (yes l) r = rw (upTo-in t e es l) (skip r)
+      go (no l) r = rw (upTo-out t e es (omega arith)) r
+  by-part (take {e = e} {es = es} s) b = rw (upTo-in t e es (b .0)) (take (by-part s (b .1)))
 
-    from : PathBy es t x y → CausalPath (upTo t es) x y
-    from (p, b) = record { path = p .path; links = p .links; rising = p .rising; members = λ e k. mem-upTo t es e (p .members e k) (b e k) }
+  pub causal-by : (es : List Event) (x y : ℕ) → CausalPath (upTo t es) x y ↔ PathBy es t x y
+  causal-by es x y = (to, from)
+    where
+      to : CausalPath (upTo t es) x y → PathBy es t x y
+      to p = let o = part-by es (p .path) (p .order) in (record { path = p .path; links = p .links; order = o .0 }, o .1)
+
+      from : PathBy es t x y → CausalPath (upTo t es) x y
+      from (p, b) = record { path = p .path; links = p .links; order = by-part (p .order) b }

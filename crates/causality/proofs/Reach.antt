@@ -1,11 +1,10 @@
--- Causal paths by the order of acceptance, as a recurrence over the list of events.
+-- Causal paths as a recurrence over the list of events.
 use Prim.Native.Nat.{ℕ}
-use mathlib.Core.Path.{_≡_, refl, sym, subst}
+use mathlib.Core.Path.{_≡_, refl, sym}
 use mathlib.Core.Logic.{_⊎_, inl, inr, _↔_}
-use mathlib.Core.List.{List, [], _∷_, reverse, reverseAux, reverse-reverse}
+use mathlib.Core.List.{List, [], _∷_}
 use Rattle.record.specs.declared.Event.{Event}
-use Rattle.rules.specs.Paths.{Links}
-use Rattle.causality.specs.Order.{Part, done, skip, take, OrderPath, All}
+use Rattle.rules.specs.Paths.{Links, Part, done, skip, take, CausalPath, All}
 
 abbrev pub Reach : List Event → ℕ → ℕ → Type 0
 Reach [] x y = x ≡ y
@@ -19,6 +18,12 @@ pub All-part : (p : Event → Type 0) {c es : List Event} → Part c es → All 
 All-part p done a = tt
 All-part p (skip s) a = All-part p s (a .1)
 All-part p (take s) a = (a .0, All-part p s (a .1))
+
+-- a part of events none of which may be of it is empty
+pub part-none : (p q : Event → Type 0) → ((e : Event) → p e → q e → ⊥) → {c es : List Event} → Part c es → All p es → All q c → c ≡ []
+part-none p q n done a b = refl
+part-none p q n (skip s) a b = part-none p q n s (a .1) b
+part-none p q n (take {e = e} s) a b = absurd (n e (a .0) (b .0))
 
 pub part-nil : (es : List Event) → Part [] es
 part-nil [] = done
@@ -48,40 +53,17 @@ reach-never (e ∷ es) x y a (inr r) = absurd (a .0 (sym (r .0)))
 
 -- the recurrence is the paths
 
--- a chain listed from its last event to its first
-abbrev Chain : ℕ → ℕ → List Event → Type 0
-Chain x y [] = x ≡ y
-Chain x y (e ∷ c) = (y ≡ e .target .0) × Chain x (e .source .0) c
+to-path : (es : List Event) (x y : ℕ) → Reach es x y → CausalPath es x y
+to-path [] x y r = record { path = []; links = r; order = done }
+to-path (e ∷ es) x y (inl r) = let p = to-path es x y r in record { path = p .path; links = p .links; order = skip (p .order) }
+to-path (e ∷ es) x y (inr r) =
+    let p = to-path es x (e .source .0) (r .1) in
+    record { path = e ∷ p .path; links = (r .0, p .links); order = take (p .order) }
 
-reach-chain : (es : List Event) (x y : ℕ) → Reach es x y → (c : List Event) × Chain x y c × Part c es
-reach-chain [] x y r = ([], r, done)
-reach-chain (e ∷ es) x y (inl r) = let k = reach-chain es x y r in (k .0, k .1, skip (k .2))
-reach-chain (e ∷ es) x y (inr r) = let k = reach-chain es x (e .source .0) (r .1) in (e ∷ k .0, (r .0, k .1), take (k .2))
+from-path : {p es : List Event} → Part p es → (x y : ℕ) → Links x y p → Reach es x y
+from-path done x y l = l
+from-path (skip s) x y l = inl (from-path s x y l)
+from-path (take {e = e} s) x y l = inr (l .0, from-path s x (e .source .0) (l .1))
 
-chain-reach : {c es : List Event} → Part c es → (x y : ℕ) → Chain x y c → Reach es x y
-chain-reach done x y k = k
-chain-reach (skip s) x y k = inl (chain-reach s x y k)
-chain-reach (take {e = e} s) x y k = inr (k .0, chain-reach s x (e .source .0) (k .1))
-
-links-chain : (w x z : ℕ) (c r : List Event) → Links x z c → Chain w x r → Chain w z (reverseAux c r)
-links-chain w x z [] r l k = rw (← l) k
-links-chain w x z (e ∷ c) r l k = links-chain w (e .target .0) z c (e ∷ r) (l .1) (refl, rw (l .0) k)
-
-chain-links : (x y z : ℕ) (c r : List Event) → Chain x y c → Links y z r → Links x z (reverseAux c r)
-chain-links x y z [] r k l = rw k l
-chain-links x y z (e ∷ c) r k l = chain-links x (e .source .0) z c (e ∷ r) (k .1) (refl, rw (← (k .0)) l)
-
-pub reach-path : (es : List Event) (x y : ℕ) → Reach es x y ↔ OrderPath es x y
-reach-path es x y = (to, from)
-  where
-    to : Reach es x y → OrderPath es x y
-    to r =
-        let k = reach-chain es x y r in
-        record {
-          path = reverse (k .0);
-          links = chain-links x y y (k .0) [] (k .1) refl;
-          order = subst (λ c. Part c es) (sym (reverse-reverse (k .0))) (k .2);
-        }
-
-    from : OrderPath es x y → Reach es x y
-    from p = chain-reach (p .order) x y (links-chain x x y (p .path) [] (p .links) refl)
+pub reach-path : (es : List Event) (x y : ℕ) → Reach es x y ↔ CausalPath es x y
+reach-path es x y = (to-path es x y, λ p. from-path (p .order) x y (p .links))

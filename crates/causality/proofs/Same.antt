@@ -74,7 +74,7 @@ fit-same s f =
       source-in = omega (arith, f .source-in, s .ne-is);
       target-in = omega (arith, f .target-in, s .ne-is);
       apart = f .apart;
-      later = f .later;
+      not-earlier = f .not-earlier;
       positive = f .positive;
     }
 

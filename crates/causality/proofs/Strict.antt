@@ -1,22 +1,18 @@
--- With strictly rising times, the order of acceptance is the order of times: paths by order are document 01's causal paths.
-use Prim.Native.Nat.{ℕ, _<_}
+-- With strictly rising times, the order of acceptance is the order of times: causal paths are document 01's chains by times.
+use Prim.Native.Nat.{ℕ, _≤_, _<_}
 use native.Mathlib.Omega.{arith}
 use mathlib.Core.Path.{_≡_, refl, sym, subst}
 use mathlib.Core.Logic.{_⊎_, inl, inr, ⊎-elim, _↔_}
-use mathlib.Core.List.{List, [], _∷_, _++_, reverse, reverseAux, reverse-reverse, List·Memᴰ, List·Memᴰ·head, List·Memᴰ·tail, List·Memᴰ·cases-cons, List·Memᴰ·not-nil, Memᴰ·cast}
+use mathlib.Core.List.{List, [], _∷_, List·Memᴰ, List·Memᴰ·head, List·Memᴰ·tail, List·Memᴰ·cases-cons, List·Memᴰ·not-nil, Memᴰ·cast}
 use Rattle.record.specs.declared.Event.{Event}
-use Rattle.rules.specs.Paths.{Rising, CausalPath}
-use Rattle.rules.specs.History.{Item, kept, dropped, accepted}
-use Rattle.rules.specs.Trail.{Trail}
-use Rattle.causality.specs.Working.{lastOf, Grown}
-use Rattle.causality.specs.Order.{Part, done, skip, take, OrderPath, All, Falling}
+use Rattle.rules.specs.Paths.{Part, done, skip, take, CausalPath, All, PathBy}
+use Rattle.causality.specs.Times.{Strict, Rising, RisingPath, RisingBy, RisingFrom}
 use Rattle.causality.proofs.Reach.{All-imp, All-part, part-nil}
-use Rattle.causality.proofs.Accepted.{grown-within}
 
-pub falling-part : {c es : List Event} → Part c es → Falling es → Falling c
-falling-part done f = tt
-falling-part (skip s) f = falling-part s (f .1)
-falling-part (take {e = e} s) f = (All-part (λ d. d .time < e .time) s (f .0), falling-part s (f .1))
+pub strict-part : {c es : List Event} → Part c es → Strict es → Strict c
+strict-part done f = tt
+strict-part (skip s) f = strict-part s (f .1)
+strict-part (take {e = e} s) f = (All-part (λ d. d .time < e .time) s (f .0), strict-part s (f .1))
 
 -- every event of c is one of es
 abbrev pub Among : List Event → List Event → Type 0
@@ -50,91 +46,52 @@ older e es c b a d m = go (List·Memᴰ·cases-cons (a d m))
     go (inr k) = k
 
 abbrev Parts : List Event → Type 0
-Parts es = (c : List Event) → Falling c → Among c es → Part c es
+Parts es = (c : List Event) → Strict c → Among c es → Part c es
 
-in-part : (es : List Event) → Falling es → Parts es
+in-part : (es : List Event) → Strict es → Parts es
 in-part [] f = go
   where
-    go : (c : List Event) → Falling c → Among c [] → Part c []
+    go : (c : List Event) → Strict c → Among c [] → Part c []
     go [] g a = done
     go (d ∷ c) g a = absurd (List·Memᴰ·not-nil (a d (List·Memᴰ·head refl)))
 in-part (e ∷ es) f = go (in-part es (f .1))
   where
-    step : Parts es → (d : Event) (c : List Event) → Falling (d ∷ c) → Among (d ∷ c) (e ∷ es) → (d ≡ e) ⊎ List·Memᴰ d es → Part (d ∷ c) (e ∷ es)
+    step : Parts es → (d : Event) (c : List Event) → Strict (d ∷ c) → Among (d ∷ c) (e ∷ es) → (d ≡ e) ⊎ List·Memᴰ d es → Part (d ∷ c) (e ∷ es)
     step ih d c g a (inl q) = rw q (take (ih c (g .1) (older e es c (rw q at (g .0)) (λ x k. a x (List·Memᴰ·tail k)))))
     step ih d c g a (inr m) =
         let l : d .time < e .time = all-mem (λ x. x .time < e .time) es (f .0) m in
         skip (ih (d ∷ c) g (older e es (d ∷ c) (l, All-imp (λ x k. omega arith) c (g .0)) a))
 
-    go : Parts es → (c : List Event) → Falling c → Among c (e ∷ es) → Part c (e ∷ es)
+    go : Parts es → (c : List Event) → Strict c → Among c (e ∷ es) → Part c (e ∷ es)
     go ih [] g a = part-nil (e ∷ es)
     go ih (d ∷ c) g a = step ih d c g a (List·Memᴰ·cases-cons (a d (List·Memᴰ·head refl)))
 
--- the list turned round
+-- times that rise from each event to the next rise strictly
 
-in-reverse : (es c r : List Event) → Among c es → Among r es → Among (reverseAux c r) es
-in-reverse es [] r a b = b
-in-reverse es (e ∷ c) r a b = in-reverse es c (e ∷ r) (λ d m. a d (List·Memᴰ·tail m)) (among-cons (a e (List·Memᴰ·head refl)) b)
+strict-rising : (p : List Event) → Strict p → Rising p
+strict-rising [] f = tt
+strict-rising (e ∷ []) f = tt
+strict-rising (e ∷ (d ∷ p)) f = (f .0 .0, strict-rising (d ∷ p) (f .1))
 
-abbrev Under : List Event → List Event → Type 0
-Under r [] = Unit {0}
-Under r (e ∷ c) = All (λ d. d .time < e .time) r
+rising-strict : (p : List Event) → Rising p → Strict p
+rising-strict [] r = tt
+rising-strict (e ∷ []) r = (tt, tt)
+rising-strict (e ∷ (d ∷ p)) r = let f = rising-strict (d ∷ p) (r .1) in ((r .0, All-imp (λ x k. omega (arith, r .0)) p (f .0)), f)
 
-rising-falling : (c r : List Event) → Rising c → Under r c → Falling r → Falling (reverseAux c r)
-rising-falling [] r a u f = f
-rising-falling (e ∷ []) r a u f = (u, f)
-rising-falling (e ∷ (d ∷ c)) r a u f = rising-falling (d ∷ c) (e ∷ r) (a .1) (a .0, All-imp (λ x k. omega (arith, a .0)) r u) (u, f)
+module _ (es : List Event) (f : Strict es) (x y : ℕ) where
+  to-rising : CausalPath es x y → RisingPath es x y
+  to-rising p = record { path = p .path; links = p .links; rising = strict-rising (p .path) (strict-part (p .order) f); members = part-in (p .order) }
 
-abbrev Over : List Event → List Event → Type 0
-Over [] r = Unit {0}
-Over (e ∷ c) r = Rising (e ∷ r)
+  from-rising : RisingPath es x y → CausalPath es x y
+  from-rising p = record { path = p .path; links = p .links; order = in-part es f (p .path) (rising-strict (p .path) (p .rising)) (p .members) }
 
-falling-rising : (c r : List Event) → Falling c → Over c r → Rising r → Rising (reverseAux c r)
-falling-rising [] r f o a = a
-falling-rising (e ∷ []) r f o a = o
-falling-rising (e ∷ (d ∷ c)) r f o a = falling-rising (d ∷ c) (e ∷ r) (f .1) (f .0 .0, o) o
+  pub causal-rising : CausalPath es x y ↔ RisingPath es x y
+  causal-rising = (to-rising, from-rising)
 
-over : (c : List Event) → Over c []
-over [] = tt
-over (e ∷ c) = tt
+  pub rising-by : (t : ℕ) → PathBy es t x y ↔ RisingBy es t x y
+  unfolding to-rising from-rising
+  rising-by t = (λ (p, b). (to-rising p, b), λ (p, b). (from-rising p, b))
 
-under : (c : List Event) → Under [] c
-under [] = tt
-under (e ∷ c) = tt
-
-pub order-causal : (es : List Event) → Falling es → (x y : ℕ) → OrderPath es x y ↔ CausalPath es x y
-order-causal es f x y = (to, from)
-  where
-    to : OrderPath es x y → CausalPath es x y
-    to p =
-        record {
-          path = p .path;
-          links = p .links;
-          rising = subst Rising (reverse-reverse (p .path)) (falling-rising (reverse (p .path)) [] (falling-part (p .order) f) (over (reverse (p .path))) tt);
-          members = subst (λ c. Among c es) (reverse-reverse (p .path)) (in-reverse es (reverse (p .path)) [] (part-in (p .order)) among-nil);
-        }
-
-    from : CausalPath es x y → OrderPath es x y
-    from p =
-        record {
-          path = p .path;
-          links = p .links;
-          order = in-part es f (reverse (p .path)) (rising-falling (p .path) [] (p .rising) (under (p .path)) tt) (in-reverse es (p .path) [] (p .members) among-nil);
-        }
-
--- the earlier part of a list whose times rise strictly
-pub earlier-falling : (later : List Item) (h : Item) (earlier hs : List Item) → hs ≡ later ++ (h ∷ earlier) → Falling (accepted hs) → Falling (accepted (h ∷ earlier)) × Falling (accepted earlier)
-earlier-falling later h earlier hs q f = go later (subst (λ z. Falling (accepted z)) q f)
-  where
-    tail : (h : Item) → Falling (accepted (h ∷ earlier)) → Falling (accepted earlier)
-    tail (kept e) f = f .1
-    tail (dropped e) f = f .1
-
-    go : (l : List Item) → Falling (accepted (l ++ (h ∷ earlier))) → Falling (accepted (h ∷ earlier)) × Falling (accepted earlier)
-    go [] f = (f, tail h f)
-    go (kept e ∷ l) f = go l (f .1)
-    go (dropped e ∷ l) f = go l (f .1)
-
--- an event later than the last accepted one
-pub falling-next : {T : Trail} {hs : List Item} → Grown T hs → Falling (accepted hs) → (e : Event) → lastOf hs < e .time → Falling (e ∷ accepted hs)
-falling-next {hs = hs} g f e l = (All-imp (λ d w. omega (arith, w .by)) (accepted hs) (grown-within g), f)
+  pub rising-from : (t : ℕ) → RisingFrom es t x y → (p : CausalPath es x y) × All (λ e. t ≤ e .time) (p .path)
+  unfolding from-rising
+  rising-from t (p, b) = (from-rising p, b)

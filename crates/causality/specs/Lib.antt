@@ -1,3 +1,3 @@
 pub mod Working
-pub mod Order
+pub mod Times
 pub mod Statements

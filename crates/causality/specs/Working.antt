@@ -128,7 +128,7 @@ pub record Fit (T : Trail) (last : ℕ) (e : Event) : Type 0 where
   pub source-in : e .source .0 < ne T
   pub target-in : e .target .0 < ne T
   pub apart : e .source .0 ≡ e .target .0 → ⊥
-  pub later : last ≤ e .time
+  pub not-earlier : last ≤ e .time
   pub positive : 1 ≤ e .time
 
 -- an event may be dropped if its source's latest version leads to its target already

@@ -10,7 +10,7 @@ use Rattle.rules.specs.Trail.{Trail}
 use Rattle.rules.specs.Sound.{countSum}
 use Rattle.soundness.specs.Facts.{RowFacts}
 use Rattle.soundness.proofs.Sums.{sum-same}
-use Rattle.soundness.proofs.Extends.{Extends, rows-stay, old-entity, old-version, same-edge, old-rises}
+use Rattle.soundness.proofs.Extends.{Extends, rows-stay, old-entity, old-version, same-edge, old-times}
 use Rattle.closure.specs.Same.{SameRows}
 
 module _ {T T′ : Trail} (s : SameRows T T′) (last : T .counts .last ≡ T′ .counts .last) where
@@ -38,7 +38,7 @@ module _ {T T′ : Trail} (s : SameRows T T′) (last : T .counts .last ≡ T′
         let end = ap (λ (r : VersionRow). r .end) (s .version-rows k h) in
         old-version T T′ f same-extends k h (omega (arith, v .start-end)) (omega (arith, v .end-last));
     edge = λ k l. let h : k < T .counts .edges = omega (arith, s .edges) in same-edge T T′ f same-extends k h (sym (s .edge-rows k h));
-    rises = λ k l. old-rises T T′ f same-extends k (omega (arith, s .edges));
+    times-ordered = λ k l. old-times T T′ f same-extends k (omega (arith, s .edges));
     sum = ap (countSum (T′ .edge)) (sym (s .edges))
         ∙ sym (sum-same (λ (r : EdgeRow). r .count) (T .edge) (T′ .edge) (T .counts .edges) (λ k l. ap (λ (r : EdgeRow). r .count) (s .edge-rows k l)))
         ∙ f .sum ∙ accepted;

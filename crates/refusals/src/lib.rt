@@ -12,7 +12,7 @@ pub enum Refusal {
     NotNext,
     SourceIsTarget,
     WrongSort,
-    NotLater,
+    TooEarly,
     // because of the state
     EntitiesFull,
     VersionsFull,
@@ -44,7 +44,7 @@ pub fn refusal_number(r: Refusal) -> u32
         Refusal::NotNext => 6,
         Refusal::SourceIsTarget => 7,
         Refusal::WrongSort => 8,
-        Refusal::NotLater => 9,
+        Refusal::TooEarly => 9,
         Refusal::EntitiesFull => 10,
         Refusal::VersionsFull => 11,
         Refusal::EdgesFull => 12,

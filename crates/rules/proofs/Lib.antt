@@ -15,6 +15,8 @@ pub mod SignedLogCases
 pub mod SignedListCases
 pub mod ListingCases
 pub mod CallCases
+pub mod TickCases
+pub mod PathCases
 pub mod Start
 pub mod Intake
 pub mod Members

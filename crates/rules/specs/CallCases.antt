@@ -30,9 +30,9 @@ lent = workedBatch 8 .tables
 abbrev pub lentThen : Tables
 lentThen = tables (lent .entities) (lent .versions) (putEdge (lent .edges) 0 (edgeRow 0 1 1 1 3 8))
 
--- the worked file, a backward trace, two reads of which the second is not later, a forward trace: the last call stands first
+-- the worked file, a backward trace, two reads of which the second is earlier, a forward trace: the last call stands first
 abbrev pub reads : List Call
-reads = batch lent (header ++ (event 1 0 1 8 ++ event 1 0 1 8)) ∷ backward lent 2 6 [] [] ∷ batch (room 8) (file 1) ∷ []
+reads = batch lent (header ++ (event 1 0 1 8 ++ event 1 0 1 7)) ∷ backward lent 2 6 [] [] ∷ batch (room 8) (file 1) ∷ []
 
 abbrev pub calls : List Call
 calls = forward lentThen (1 ∷ []) 4 [] [] ∷ reads

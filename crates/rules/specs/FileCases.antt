@@ -106,9 +106,10 @@ pub record FileCases : Type 0 where
   pub decoded-greatest : decodeOf 1 greatestBytes ≡ Whole greatestEvent
   pub encoded-greatest : map encodeOf (greatestEvent ∷ greatestObject ∷ []) ≡ greatestBytes ∷ (0 ∷ 0 ∷ 255 ∷ 255 ∷ replicate 8 0) ∷ []
   pub encoded-kinds : map encodedKind (Read ∷ Write ∷ Load ∷ Fork ∷ Execve ∷ []) ≡ 1 ∷ 2 ∷ 3 ∷ 4 ∷ 5 ∷ []
-  -- the greatest time, and none above it
+  -- the greatest time; after it an earlier one is refused, and the same accepted
   pub greatest-time : takenIn (declare 0 0 ++ (declare 1 1 ++ readAt 255 255 255 255)) .counts ≡ counts 2 2 1 1 4294967295
-  pub after-greatest : takenIn (declare 0 0 ++ (declare 1 1 ++ (readAt 255 255 255 255 ++ readAt 255 255 255 255))) .answer ≡ answer 9 3 0
+  pub after-greatest : map (λ a. takenIn (declare 0 0 ++ (declare 1 1 ++ (readAt 255 255 255 255 ++ readAt a 255 255 255))) .answer) (254 ∷ 255 ∷ [])
+      ≡ answer 9 3 0 ∷ answer 0 4 1 ∷ []
   -- "One to 11 bytes remain."
   pub cut-short : map cutTo (0 ∷ 1 ∷ 2 ∷ 3 ∷ 4 ∷ 5 ∷ 6 ∷ 7 ∷ 8 ∷ 9 ∷ 10 ∷ 11 ∷ 12 ∷ []) ≡ answer 0 1 0 ∷ (replicate 11 (answer 3 1 0) ++ (answer 0 2 0 ∷ []))
   -- "Records are taken in order until the first one refused." One that cannot be read, one that is not taken in

@@ -43,3 +43,5 @@ pub mod SignedLogCases
 pub mod SignedListCases
 pub mod ListingCases
 pub mod CallCases
+pub mod TickCases
+pub mod PathCases

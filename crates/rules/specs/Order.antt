@@ -6,7 +6,7 @@ use mathlib.Core.Path.{_≡_}
 use mathlib.Core.List.{List, [], _∷_, _++_}
 use lib.ListN.{replicate}
 use Rattle.refusals.specs.declared.Refusal.{Refusal}
-use Rattle.refusals.specs.declared.Refusal.the-variants.{NotEventFile, WrongVersion, CutShort, BadField, Undeclared, NotNext, SourceIsTarget, WrongSort, NotLater, EntitiesFull, VersionsFull, EdgesFull, AcceptedFull, BufferShort, OutputShort, Unsound}
+use Rattle.refusals.specs.declared.Refusal.the-variants.{NotEventFile, WrongVersion, CutShort, BadField, Undeclared, NotNext, SourceIsTarget, WrongSort, TooEarly, EntitiesFull, VersionsFull, EdgesFull, AcceptedFull, BufferShort, OutputShort, Unsound}
 use Rattle.refusals.specs.Refusals.{refusalNo}
 use Rattle.rows.specs.declared.Counts.{Counts}
 use Rattle.rules.specs.Trail.{Tables, tables, counts, freshCounts, none, mostAccepted}
@@ -66,9 +66,12 @@ pub record OrderOfRefusals : Type 0 where
   pub r5-7 : Refuses (used 1) full (event 1 9 9 9) Undeclared 0
   pub r5-8 : Refuses (used 1) full (event 1 1 9 9) Undeclared 0
   pub r7-8 : Refuses (used 1) full (event 1 1 1 9) SourceIsTarget 0
-  pub r8-9 : Refuses (used 1) full (event 1 1 0 5) WrongSort 0
-  pub r8-target : Refuses (used 1) full (event 4 1 0 5) WrongSort 0
-  pub r9-13 : Refuses (used mostAccepted) (fullOf mostAccepted) (event 2 1 0 5) NotLater 0
+  pub r8-9 : Refuses (used 1) full (event 1 1 0 4) WrongSort 0
+  pub r8-target : Refuses (used 1) full (event 4 1 0 4) WrongSort 0
+  pub r9-13 : Refuses (used mostAccepted) (fullOf mostAccepted) (event 2 1 0 4) TooEarly 0
+  -- a time equal to the last is past 9
+  pub r13-tie : Refuses (used mostAccepted) (fullOf mostAccepted) (event 2 1 0 5) AcceptedFull 0
+  pub r12-tie : Refuses (used 1) full (event 2 1 0 5) EdgesFull 0
   pub r13-12 : Refuses (used mostAccepted) (fullOf mostAccepted) (event 2 1 0 6) AcceptedFull 0
   -- a repeat, too
   pub r13-repeat : Refuses (used mostAccepted) (fullOf mostAccepted) (event 1 0 1 6) AcceptedFull 0

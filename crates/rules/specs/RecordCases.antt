@@ -4,7 +4,7 @@ use Prim.Native.Nat.{ℕ}
 use mathlib.Core.Path.{_≡_}
 use mathlib.Core.List.{List, [], _∷_, _++_, map}
 use lib.ListN.{take, replicate}
-use Rattle.refusals.specs.declared.Refusal.the-variants.{NotLater}
+use Rattle.refusals.specs.declared.Refusal.the-variants.{TooEarly}
 use Rattle.refusals.specs.declared.Checked.the-variants.{Passed, Refused}
 use Rattle.rows.specs.declared.Counts.{Counts}
 use Rattle.rows.specs.Rows.{entityRow, versionRow, edgeRow, entityNo, entityAt, versionAt, edgeAt, putEdge}
@@ -145,8 +145,8 @@ pub record RecordCases : Type 0 where
   pub late-counts : grownThenDeclared .counts ≡ counts 5 7 5 5 5
   pub late-entities : map (entityAt (grownThenDeclared .tables .entities)) (0 ∷ 1 ∷ 2 ∷ 3 ∷ 4 ∷ []) ≡ entityRow 0 0 ∷ entityRow 1 4 ∷ entityRow 0 5 ∷ entityRow 0 3 ∷ entityRow 1 6 ∷ []
   pub late-version : versionAt (grownThenDeclared .tables .versions) 6 ≡ versionRow 4 0 0 none
-  -- a refused record leaves nothing of itself: reads that are not later, one that would be kept and one that would repeat
-  pub refused-record : takeIn (versionsUsed 5) (longer 2 4 6) 0 (records.Event (read 3 1 9) ∷ []) Passed
-      ≡ results (Refused NotLater) 0 (versionsUsed 5) (longer 2 4 6)
-  pub refused-repeat : takeIn (versionsUsed 5) (longer 2 4 6) 0 (records.Event (read 0 1 9) ∷ []) Passed
-      ≡ results (Refused NotLater) 0 (versionsUsed 5) (longer 2 4 6)
+  -- a refused record leaves nothing of itself: reads that are earlier, one that would be kept and one that would repeat
+  pub refused-record : takeIn (versionsUsed 5) (longer 2 4 6) 0 (records.Event (read 3 1 8) ∷ []) Passed
+      ≡ results (Refused TooEarly) 0 (versionsUsed 5) (longer 2 4 6)
+  pub refused-repeat : takeIn (versionsUsed 5) (longer 2 4 6) 0 (records.Event (read 0 1 8) ∷ []) Passed
+      ≡ results (Refused TooEarly) 0 (versionsUsed 5) (longer 2 4 6)

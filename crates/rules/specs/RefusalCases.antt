@@ -5,7 +5,7 @@ use mathlib.Core.Path.{_≡_}
 use mathlib.Core.List.{List, [], _∷_, _++_, map}
 use lib.ListN.{replicate}
 use Rattle.refusals.specs.declared.Refusal.{Refusal}
-use Rattle.refusals.specs.declared.Refusal.the-variants.{NotEventFile, WrongVersion, CutShort, BadField, Undeclared, NotNext, SourceIsTarget, WrongSort, NotLater, EntitiesFull, VersionsFull, EdgesFull, AcceptedFull, BufferShort, OutputShort, Unsound, Signed}
+use Rattle.refusals.specs.declared.Refusal.the-variants.{NotEventFile, WrongVersion, CutShort, BadField, Undeclared, NotNext, SourceIsTarget, WrongSort, TooEarly, EntitiesFull, VersionsFull, EdgesFull, AcceptedFull, BufferShort, OutputShort, Unsound, Signed}
 use Rattle.refusals.specs.Refusals.{refusalNo}
 use Rattle.rows.specs.declared.Counts.{Counts}
 use Rattle.rules.specs.Trail.{Tables, tables, counts, mostAccepted}
@@ -17,7 +17,7 @@ use Rattle.rules.specs.SoundCases.{entityRows, versionRows, edgeRowsOf, 
 -- "Refused because of the input", "Refused because of the state", and document 02, 2.4
 abbrev pub refusals : List Refusal
 refusals =
-    NotEventFile ∷ WrongVersion ∷ CutShort ∷ BadField ∷ Undeclared ∷ NotNext ∷ SourceIsTarget ∷ WrongSort ∷ NotLater
+    NotEventFile ∷ WrongVersion ∷ CutShort ∷ BadField ∷ Undeclared ∷ NotNext ∷ SourceIsTarget ∷ WrongSort ∷ TooEarly
     ∷ EntitiesFull ∷ VersionsFull ∷ EdgesFull ∷ AcceptedFull ∷ BufferShort ∷ OutputShort ∷ Unsound ∷ Signed
     ∷ []
 
@@ -71,8 +71,8 @@ pub record RefusalCases : Type 0 where
   pub subject-to-object : map (λ k. eventRefusal k 1 0 10) (1 ∷ 2 ∷ 3 ∷ 4 ∷ 5 ∷ []) ≡ 8 ∷ 0 ∷ 8 ∷ 8 ∷ 8 ∷ []
   pub subject-to-subject : map (λ k. eventRefusal k 1 2 10) (1 ∷ 2 ∷ 3 ∷ 4 ∷ 5 ∷ []) ≡ 8 ∷ 8 ∷ 8 ∷ 0 ∷ 8 ∷ []
   pub object-to-object : map (λ k. eventRefusal k 0 3 10) (1 ∷ 2 ∷ 3 ∷ 4 ∷ 5 ∷ []) ≡ 8 ∷ 8 ∷ 8 ∷ 8 ∷ 8 ∷ []
-  -- "9. Time not above the last accepted time."
-  pub time : map (eventRefusal 1 0 1) (0 ∷ 8 ∷ 9 ∷ 10 ∷ []) ≡ 9 ∷ 9 ∷ 9 ∷ 0 ∷ []
+  -- 9, document 02, 2.5: "Equal to the last time is now accepted; earlier, or time 0, still gives 9."
+  pub time : map (eventRefusal 1 0 1) (0 ∷ 8 ∷ 9 ∷ 10 ∷ []) ≡ 9 ∷ 9 ∷ 0 ∷ 0 ∷ []
   -- "13. Accepted is 1,000,000."
   pub accepted-kept : map (λ n. keptAfter n .answer .refusal) (999999 ∷ 1000000 ∷ []) ≡ 0 ∷ 13 ∷ []
   pub accepted-repeated : map (λ n. repeatedAfter n .answer .refusal) (999999 ∷ 1000000 ∷ []) ≡ 0 ∷ 13 ∷ []

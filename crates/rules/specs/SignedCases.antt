@@ -160,13 +160,13 @@ pub record SignedCases : Type 0 where
   pub r5-17 : Refuses (used 1) signedFull (event 2 9 0 6) Undeclared 0
   pub r7-17 : Refuses (used 1) signedFull (event 2 0 0 6) SourceIsTarget 0
   pub r8-17 : Refuses (used 1) signedFull (event 4 1 0 6) WrongSort 0
-  pub r17-9 : Refuses (used 1) signedFull (event 2 1 0 5) Signed 0
+  pub r17-9 : Refuses (used 1) signedFull (event 2 1 0 4) Signed 0
   pub r17-13 : Refuses (used mostAccepted) (signedFullOf mostAccepted) (event 2 1 0 6) Signed 0
-  pub r17-9-13 : Refuses (used mostAccepted) (signedFullOf mostAccepted) (event 2 1 0 5) Signed 0
+  pub r17-9-13 : Refuses (used mostAccepted) (signedFullOf mostAccepted) (event 2 1 0 4) Signed 0
   pub r17-12 : Refuses (used 1) signedFull (event 2 1 0 6) Signed 0
   pub r17-11 : Refuses (used 1) (tables (signedFull .entities) (signedFull .versions) (signedFull .edges ++ replicate 6 0)) (event 2 1 0 6) Signed 0
-  -- a repeat, too: later, not later, and at 1,000,000
-  pub r17-repeat : map (λ t. signedThen (event 2 1 2 t) .answer) (7 ∷ 8 ∷ []) ≡ replicate 2 (answer 17 12 11)
+  -- a repeat, too: earlier, in the same tick, later, and at 1,000,000
+  pub r17-repeat : map (λ t. signedThen (event 2 1 2 t) .answer) (6 ∷ 7 ∷ 8 ∷ []) ≡ replicate 3 (answer 17 12 11)
   pub r17-13-repeat : Refuses (used mostAccepted) signedTarget (event 2 0 1 6) Signed 0
   -- what is refused leaves the counts and the tables
   pub write-left : batchOf (used 1) signedFull (header ++ event 2 1 0 6) ≡ record { answer = answer 17 0 0; counts = used 1; tables = signedFull }

@@ -1,4 +1,4 @@
--- Document 01, "Tables", and document 02, 2.1 and 2.4: sound tables, each clause just met and just missed. The proof is in proofs/SoundCases.antt.
+-- Document 01, "Tables", and document 02, 2.1, 2.4 and 2.5: sound tables, each clause just met and just missed. The proof is in proofs/SoundCases.antt.
 use Prim.Native.Nat.{ℕ, _-_}
 use mathlib.Core.Path.{_≡_}
 use mathlib.Core.Bool.{Bool, true, false}
@@ -116,10 +116,10 @@ pub record SoundCases : Type 0 where
   pub none-at-zero : map (versionIs 3 1 0 9) (none ∷ 1 ∷ []) ≡ true ∷ false ∷ []
   pub none-past-zero : map (λ s. versionIs 0 0 s 4 none) (0 ∷ 1 ∷ []) ≡ true ∷ false ∷ []
   pub previous-past-zero : map (λ s. versionIs 3 1 s 9 1) (0 ∷ 1 ∷ []) ≡ false ∷ true ∷ []
-  -- "else a lower-numbered version of the same entity with a lower start"
+  -- "else a lower-numbered version of the same entity with a lower start"; document 02, 2.5: or an equal one
   pub previous-lower : map previousIs (1 ∷ 5 ∷ []) ≡ true ∷ false ∷ []
   pub previous-entity : map (versionIs 3 1 5 9) (0 ∷ 1 ∷ 2 ∷ 3 ∷ []) ≡ false ∷ true ∷ false ∷ false ∷ []
-  pub previous-start : map (λ s. sixthIs 1 s 9 3) (4 ∷ 5 ∷ 6 ∷ []) ≡ false ∷ false ∷ true ∷ []
+  pub previous-start : map (λ s. sixthIs 1 s 9 3) (4 ∷ 5 ∷ 6 ∷ []) ≡ false ∷ true ∷ true ∷ []
   -- "an edge joins existing versions of two different entities"
   pub from-exists : map sixthIsFrom (5 ∷ 6 ∷ []) ≡ false ∷ true ∷ []
   pub to-exists : map sixthIsTo (5 ∷ 6 ∷ []) ≡ false ∷ true ∷ []
@@ -130,10 +130,10 @@ pub record SoundCases : Type 0 where
   pub subject-to-object : map (λ n. edgeIs 4 3 0 n 9) (0 ∷ 1 ∷ 2 ∷ 3 ∷ 4 ∷ 5 ∷ 6 ∷ []) ≡ false ∷ false ∷ true ∷ false ∷ false ∷ false ∷ false ∷ []
   pub subject-to-subject : map (λ n. edgeIs 4 3 2 n 9) (0 ∷ 1 ∷ 2 ∷ 3 ∷ 4 ∷ 5 ∷ 6 ∷ []) ≡ false ∷ false ∷ false ∷ false ∷ true ∷ false ∷ false ∷ []
   pub object-to-object : map (λ n. edgeIs 4 0 4 n 9) (0 ∷ 1 ∷ 2 ∷ 3 ∷ 4 ∷ 5 ∷ 6 ∷ []) ≡ replicate 7 false
-  -- "and a time from 1 to last time; edge times rise strictly": the first, a middle one, the last
-  pub first-time : map (edgeIs 0 0 1 1) (0 ∷ 1 ∷ 3 ∷ 4 ∷ []) ≡ false ∷ true ∷ true ∷ false ∷ []
-  pub middle-time : map (edgeIs 2 0 3 3) (4 ∷ 5 ∷ 7 ∷ 8 ∷ []) ≡ false ∷ true ∷ true ∷ false ∷ []
-  pub last-time : map (edgeIs 4 0 3 5) (8 ∷ 9 ∷ 10 ∷ []) ≡ false ∷ true ∷ false ∷ []
+  -- "and a time from 1 to last time"; document 02, 2.5: edge times "need only not fall": the first, a middle one, the last
+  pub first-time : map (edgeIs 0 0 1 1) (0 ∷ 1 ∷ 4 ∷ 5 ∷ []) ≡ false ∷ true ∷ true ∷ false ∷ []
+  pub middle-time : map (edgeIs 2 0 3 3) (3 ∷ 4 ∷ 8 ∷ 9 ∷ []) ≡ false ∷ true ∷ true ∷ false ∷ []
+  pub last-time : map (edgeIs 4 0 3 5) (7 ∷ 8 ∷ 9 ∷ 10 ∷ []) ≡ false ∷ true ∷ true ∷ false ∷ []
   -- document 02, 2.1: "a count is at least 1"; the count of another edge makes up for it
   pub count-of-first : map (λ m. countsAre 1 m (4 - m)) (0 ∷ 1 ∷ 3 ∷ []) ≡ false ∷ true ∷ true ∷ []
   pub count-of-none : map (λ k. countsAre k 4 0) (1 ∷ 2 ∷ 3 ∷ 4 ∷ []) ≡ replicate 4 false

@@ -74,10 +74,10 @@ pub record TriedCases : Type 0 where
   pub many : batchOf freshCounts (tables (replicate 6 7) (replicate 400 7) (replicate 360 7)) (header ++ (declare 0 0 ++ (declare 1 1 ++ (declare 2 1 ++ manyForks)))) .answer
       ≡ answer 0 66 282
   -- a refused batch returns what was tried before, and nothing for the record refused: 3, 4, 5, 7, 8, 9 (a repeat), 6
-  pub refused : map readsThen ((1 ∷ []) ∷ (6 ∷ replicate 11 0) ∷ event 1 9 1 3 ∷ event 1 1 1 3 ∷ event 1 1 0 3 ∷ event 1 0 1 2 ∷ declare 4 1 ∷ [])
+  pub refused : map readsThen ((1 ∷ []) ∷ (6 ∷ replicate 11 0) ∷ event 1 9 1 3 ∷ event 1 1 1 3 ∷ event 1 1 0 3 ∷ event 1 0 1 1 ∷ declare 4 1 ∷ [])
       ≡ answer 3 5 1 ∷ answer 4 5 1 ∷ answer 5 5 1 ∷ answer 7 5 1 ∷ answer 8 5 1 ∷ answer 9 5 1 ∷ answer 6 5 1 ∷ []
   -- what stands after the refused record is not read
-  pub after-refused : readsThen (event 1 0 1 2 ++ event 1 0 1 3) ≡ answer 9 5 1
+  pub after-refused : readsThen (event 1 0 1 1 ++ event 1 0 1 3) ≡ answer 9 5 1
   -- 10 and 11 for a declaration, with room for two entities, and for two versions
   pub refused-10 : declaredIn 4 32 ≡ answer 10 4 1
   pub refused-11 : declaredIn 6 8 ≡ answer 11 4 1

@@ -1,5 +1,5 @@
 -- The test of an edge by the codes of the entities at its ends is that of document 01.
-use Prim.Native.Nat.{ℕ, _+_, _*_, _/_, _%_, _^_, _≤_, _<_}
+use Prim.Native.Nat.{ℕ, zero, suc, _+_, _*_, _/_, _%_, _^_, _≤_, _<_}
 use native.Mathlib.Omega.{arith}
 use mathlib.Core.Path.{_≡_, refl, sym, _∙_, ap}
 use mathlib.Core.Bool.{Bool, true, false, _&&_, Bool·beq, and-assoc, and-true}
@@ -13,11 +13,12 @@ use Rattle.rules.specs.Trail.{Trail, ownerOf}
 use Rattle.rules.specs.KeptLog.{declaredSort}
 use Rattle.rules.specs.Sound.{every, allBelow, sourceFits, targetFits, mayFollow, timeBefore, edgeTest}
 use Rattle.soundness.specs.Facts.{EdgeFacts}
-use Rattle.soundness.specs.Parts.{codeOf, Owners, sortsFit, soundCodes, codedEdge, codedTest}
+use Rattle.soundness.specs.Parts.{codeOf, Owners, sortsFit, soundCodes, leastTime, codedEdge, codedTest}
 use Rattle.soundness.proofs.All.{every-at, all-at, done, _also_, hold-every}
 use Rattle.soundness.proofs.Sorts.{declared-low, declared-subject, source-same, target-same}
 use Rattle.soundness.proofs.Facts.{edge-facts, edge-after}
 use Rattle.soundness.proofs.Passes.{edge-passes}
+use Rattle.soundness.proofs.Edges.{timeBefore-zero, timeBefore-suc, leastTime-zero, leastTime-suc}
 
 -- two tests that hold together are equal
 same-tests : (a b : Bool) → (a ≡ true → b ≡ true) → (b ≡ true → a ≡ true) → a ≡ b
@@ -30,6 +31,11 @@ equal-tests true true h = refl
 equal-tests true false h = sym h
 equal-tests false true h = h
 equal-tests false false h = refl
+
+-- two tests, and two that are the same if those before them hold
+and-same : (a b p q : Bool) → a ≡ b → (b ≡ true → p ≡ q) → (a && p) ≡ (b && q)
+and-same a true p q e f = rw e (f refl)
+and-same a false p q e f = rw e refl
 
 -- bit 4 * kind + 2 * s + t of the number bits
 abbrev pub bitAt : ℕ → ℕ → ℕ → ℕ → Bool
@@ -77,15 +83,16 @@ module _ (T : Trail) (owners : List ℕ) (o : Owners T (T .counts .versions) own
     abbrev to : ℕ
     to = T .edge k .to .0
 
-    coded-facts : codedTest (T .counts) owners (T .edge) k ≡ true → (EdgeFacts T k) × (timeBefore (T .edge) k < T .edge k .time)
+    -- if the least time is 1 or more
+    coded-facts : 1 ≤ leastTime (T .edge) k → codedTest (T .counts) owners (T .edge) k ≡ true → (EdgeFacts T k) × (leastTime (T .edge) k ≤ T .edge k .time)
     unfolding codedTest codedEdge soundCodes sortsFit mayFollow
-    coded-facts h =
+    coded-facts low h =
         let q = every-at _ h in
         let l : from < T .counts .versions = ltb-true _ _ (q 0) in
         let m : to < T .counts .versions = ltb-true _ _ (q 1) in
         let r = every-at _ (q 3) in
         let s = every-at _ (r 0) in
-        let after : timeBefore (T .edge) k < T .edge k .time = ltb-true _ _ (r 2) in (
+        let after : leastTime (T .edge) k ≤ T .edge k .time = leb-true _ _ (r 2) in (
           record {
             from-in = l;
             to-in = m;
@@ -103,7 +110,7 @@ module _ (T : Trail) (owners : List ℕ) (o : Owners T (T .counts .versions) own
           after,
         )
 
-    facts-coded : EdgeFacts T k → timeBefore (T .edge) k < T .edge k .time → codedTest (T .counts) owners (T .edge) k ≡ true
+    facts-coded : EdgeFacts T k → leastTime (T .edge) k ≤ T .edge k .time → codedTest (T .counts) owners (T .edge) k ≡ true
     unfolding codedTest codedEdge soundCodes sortsFit mayFollow
     facts-coded h after =
         let l = h .from-in in
@@ -115,13 +122,33 @@ module _ (T : Trail) (owners : List ℕ) (o : Owners T (T .counts .versions) own
         also hold-every
         (hold-every (le-leb _ _ (h .kind-low) also (source-of (T .edge k .kind) from l ∙ h .source-fits) also (target-of (T .edge k .kind) to m ∙ h .target-fits) also done)
         also not-true-of _ (ne-eqb _ _ (λ e. h .apart (owner-of from to l m e)))
-        also lt-ltb _ _ after
+        also le-leb _ _ after
         also le-leb _ _ (h .count-low)
         also le-leb _ _ (h .last-low)
         also le-leb _ _ (h .last-high)
         also done)
         also done)
 
-    pub coded-is : codedTest (T .counts) owners (T .edge) k ≡ edgeTest T k
-    coded-is =
-        same-tests _ _ (λ h. let q = coded-facts h in edge-passes T k (q .0) (q .1)) (λ h. facts-coded (edge-facts T k h) (edge-after T k h))
+  -- the least time of an edge is the time before it, or 1 for the first
+
+  before-least : (k : ℕ) → timeBefore (T .edge) k ≤ leastTime (T .edge) k
+  before-least zero = omega (arith, timeBefore-zero (T .edge))
+  before-least (suc k) = omega (arith, timeBefore-suc (T .edge) k, leastTime-suc (T .edge) k)
+
+  least-before : (k : ℕ) → 1 ≤ T .edge k .time → timeBefore (T .edge) k ≤ T .edge k .time → leastTime (T .edge) k ≤ T .edge k .time
+  least-before zero l h = omega (arith, leastTime-zero (T .edge))
+  least-before (suc k) l h = omega (arith, timeBefore-suc (T .edge) k, leastTime-suc (T .edge) k)
+
+  least-low : (k : ℕ) → allBelow (edgeTest T) k ≡ true → 1 ≤ leastTime (T .edge) k
+  least-low zero h = omega (arith, leastTime-zero (T .edge))
+  least-low (suc k) h = omega (arith, edge-facts T k (all-at _ _ h k (omega arith)) .time-low, leastTime-suc (T .edge) k)
+
+  coded-next : (k : ℕ) → allBelow (edgeTest T) k ≡ true → codedTest (T .counts) owners (T .edge) k ≡ edgeTest T k
+  coded-next k h =
+      same-tests _ _ (λ a. let q = coded-facts k (least-low k h) a in edge-passes T k (q .0) (omega (arith, q .1, before-least k)))
+      (λ a. let f = edge-facts T k a in facts-coded k f (least-before k (f .time-low) (edge-after T k a)))
+
+  pub coded-is : (n : ℕ) → allBelow (codedTest (T .counts) owners (T .edge)) n ≡ allBelow (edgeTest T) n
+  unfolding allBelow
+  coded-is zero = refl
+  coded-is (suc k) = and-same _ _ _ _ (coded-is k) (coded-next k)

@@ -1,4 +1,4 @@
--- The loop over the edges, which keeps the time of the edge before and the sum of the counts.
+-- The loop over the edges, which keeps the least time of the next one and the sum of the counts.
 use Prim.Native.Nat.{ℕ, suc, _+_, _-_, _≤_, _<_}
 use native.Mathlib.Numerals.{add-one}
 use native.Mathlib.Omega.{arith}
@@ -11,7 +11,7 @@ use Rattle.rows.specs.declared.Counts.{Counts}
 use Rattle.rows.specs.declared.EdgeRow.{EdgeRow}
 use Rattle.rows.specs.Rows.{edgeAt}
 use Rattle.rules.specs.Sound.{allBelow, timeBefore, countSum, sumBelow}
-use Rattle.soundness.specs.Parts.{codedEdge, codedTest}
+use Rattle.soundness.specs.Parts.{leastTime, codedEdge, codedTest}
 use Rattle.soundness.proofs.All.{all-stop, all-next, all-end}
 use Rattle.soundness.proofs.Tests.{and-false, and-next}
 
@@ -26,12 +26,23 @@ timeBefore-suc E k =
     let m : suc k - 1 ≡ k = omega arith in
     rw (z, m)
 
--- edge k has row e, the one before it the time b, and the test gave r
-module _ (c : Counts) (owners ds : List ℕ) (k : ℕ) (e : EdgeRow) (q : e ≡ edgeAt ds k) where
-  pub time-next : e .time ≡ timeBefore (edgeAt ds) (k + 1)
-  time-next = ap (λ (x : EdgeRow). x .time) q ∙ sym (rw (add-one k) (timeBefore-suc (edgeAt ds) k))
+pub leastTime-zero : (E : ℕ → EdgeRow) → 1 ≡ leastTime E 0
+unfolding leastTime
+leastTime-zero E = refl
 
-  module _ (b : ℕ) (p : b ≡ timeBefore (edgeAt ds) k) (r : Bool) (g : r ≡ codedEdge c owners b e) where
+pub leastTime-suc : (E : ℕ → EdgeRow) (k : ℕ) → leastTime E (suc k) ≡ E k .time
+unfolding leastTime
+leastTime-suc E k =
+    let z : eqb (suc k) 0 ≡ false = ne-eqb (suc k) 0 (λ e. omega arith) in
+    let m : suc k - 1 ≡ k = omega arith in
+    rw (z, m)
+
+-- edge k has row e and the least time b, and the test gave r
+module _ (c : Counts) (owners ds : List ℕ) (k : ℕ) (e : EdgeRow) (q : e ≡ edgeAt ds k) where
+  pub time-next : e .time ≡ leastTime (edgeAt ds) (k + 1)
+  time-next = ap (λ (x : EdgeRow). x .time) q ∙ sym (rw (add-one k) (leastTime-suc (edgeAt ds) k))
+
+  module _ (b : ℕ) (p : b ≡ leastTime (edgeAt ds) k) (r : Bool) (g : r ≡ codedEdge c owners b e) where
     test-is : r ≡ codedTest c owners (edgeAt ds) k
     unfolding codedTest
     test-is = g ∙ rw (p, q)

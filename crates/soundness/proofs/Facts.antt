@@ -1,5 +1,5 @@
 -- Tables that pass the test have the facts of every row.
-use Prim.Native.Nat.{ℕ, suc, _<_}
+use Prim.Native.Nat.{ℕ, suc, _≤_, _<_}
 use mathlib.Core.Path.{_≡_}
 use mathlib.Core.Bool.{true}
 use borrow.Author.Tests.{ltb-true, leb-true, eqb-true, eqb-false, not-true, eq-eqb, ne-eqb}
@@ -34,7 +34,7 @@ module _ (T : Trail) where
     previous = T .version k .previous .0
 
     abbrev PreviousFacts : Type 0
-    PreviousFacts = (previous < k) × (ownerOf T previous ≡ ownerOf T k) × (T .version previous .start < T .version k .start)
+    PreviousFacts = (previous < k) × (ownerOf T previous ≡ ownerOf T k) × (T .version previous .start ≤ T .version k .start)
 
     first-of : soundPrevious k (T .version k) (T .version previous) ≡ true → T .version k .start ≡ 0 → previous ≡ none
     unfolding soundPrevious
@@ -44,7 +44,7 @@ module _ (T : Trail) where
     unfolding soundPrevious mayFollow
     later-of h z =
         let q = every-at _ (rw (ne-eqb (T .version k .start) 0 z) at h) in
-        (ltb-true _ _ (q 0), eqb-true _ _ (q 1), ltb-true _ _ (q 2))
+        (ltb-true _ _ (q 0), eqb-true _ _ (q 1), leb-true _ _ (q 2))
 
     pub version-facts : versionTest T k ≡ true → VersionFacts T k
     unfolding versionTest soundVersion
@@ -80,9 +80,9 @@ module _ (T : Trail) where
           last-high = leb-true _ _ (q 12);
         }
 
-    pub edge-after : edgeTest T k ≡ true → timeBefore (T .edge) k < T .edge k .time
+    pub edge-after : edgeTest T k ≡ true → timeBefore (T .edge) k ≤ T .edge k .time
     unfolding edgeTest mayFollow
-    edge-after h = ltb-true _ _ (every-at _ h 8)
+    edge-after h = leb-true _ _ (every-at _ h 8)
 
 module _ (cap : Capacity) (T : Trail) (s : isSound cap T ≡ true) where
   parts : (soundCounts cap (T .counts) ≡ true) × (allBelow (entityTest T) (T .counts .entities) ≡ true)
@@ -104,6 +104,6 @@ module _ (cap : Capacity) (T : Trail) (s : isSound cap T ≡ true) where
     entity = λ x l. entity-facts T x (all-at _ _ (parts .1) x l);
     version = λ k l. version-facts T k (all-at _ _ (parts .2) k l);
     edge = λ k l. edge-facts T k (all-at _ _ (parts .3) k l);
-    rises = λ k l. let h = edge-after T (suc k) (all-at _ _ (parts .3) (suc k) l) in rw timeBefore-suc at h;
+    times-ordered = λ k l. let h = edge-after T (suc k) (all-at _ _ (parts .3) (suc k) l) in rw timeBefore-suc at h;
     sum = parts .4;
   }

@@ -105,7 +105,7 @@ module _ {T T1 T2 : Trail} (g : CountsGrow (T .counts) (T1 .counts)) (h : Counts
           inr (record {
             row = b .row ∙ ap (λ (r : EdgeRow). recounted r (T2 .edge k .count) (T2 .edge k .last)) a;
             count-less = omega (arith, b .count-less);
-            last-later = omega (arith, b .last-later, g .last-le);
+            last-not-earlier = omega (arith, b .last-not-earlier, g .last-le);
             last-within = b .last-within;
           })
       counted {k} (inr a) (inl b) =
@@ -114,13 +114,13 @@ module _ {T T1 T2 : Trail} (g : CountsGrow (T .counts) (T1 .counts)) (h : Counts
           inr (record {
             row = b ∙ a .row ∙ (λ i. recounted (T .edge k) (sym n i) (sym l i));
             count-less = omega (arith, a .count-less);
-            last-later = omega (arith, a .last-later);
+            last-not-earlier = omega (arith, a .last-not-earlier);
             last-within = omega (arith, a .last-within, h .last-le);
           })
       counted {k} (inr a) (inr b) = inr (record {
         row = b .row ∙ ap (λ (r : EdgeRow). recounted r (T2 .edge k .count) (T2 .edge k .last)) (a .row);
         count-less = omega (arith, a .count-less, b .count-less);
-        last-later = omega (arith, b .last-later, g .last-le);
+        last-not-earlier = omega (arith, b .last-not-earlier, g .last-le);
         last-within = b .last-within;
       })
 

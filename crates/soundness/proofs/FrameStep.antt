@@ -46,9 +46,9 @@ module _ (cap : Capacity) (T : Trail) (f : RowFacts T) where
 
   -- what it makes of the counts
   happened-grow : (e : Event) (d : Decision) → EventTaken cap T e d → CountsGrow (T .counts) (happened T e d .counts)
-  happened-grow e (Repeat k) p = let l = p .later in search arith
-  happened-grow e Widen p = let l = p .later in search arith
-  happened-grow e Renew p = let l = p .later in search arith
+  happened-grow e (Repeat k) p = let l = p .not-earlier in search arith
+  happened-grow e Widen p = let l = p .not-earlier in search arith
+  happened-grow e Renew p = let l = p .not-earlier in search arith
 
   counts-grow : (r : Record) → refusalOf cap T r ≡ Passed → CountsGrow (T .counts) (changeOf T r .counts)
   unfolding refusalOf changeOf

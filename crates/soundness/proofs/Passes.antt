@@ -1,5 +1,6 @@
 -- Tables whose rows have the facts pass the test.
-use Prim.Native.Nat.{ℕ, zero, suc, _<_}
+use Prim.Native.Nat.{ℕ, zero, suc, _≤_, _<_}
+use native.Mathlib.Omega.{arith}
 use mathlib.Core.Path.{_≡_, refl, sym}
 use mathlib.Core.Bool.{Bool, true, false}
 use lib.Dec.{eqb}
@@ -31,14 +32,14 @@ module _ (T : Trail) where
         go true e = sym (pick-true _ _ _ _ e (sym (eq-eqb _ _ (f .first (eqb-true _ _ e)))))
         go false e =
             let z = eqb-false _ _ e in
-            sym (pick-false _ _ _ _ e (sym (hold-every (lt-ltb _ _ (f .previous-in z) also eq-eqb _ _ (f .previous-owner z) also lt-ltb _ _ (f .previous-start z) also done))))
+            sym (pick-false _ _ _ _ e (sym (hold-every (lt-ltb _ _ (f .previous-in z) also eq-eqb _ _ (f .previous-owner z) also le-leb _ _ (f .previous-start z) also done))))
 
     pub version-passes : VersionFacts T k → versionTest T k ≡ true
     unfolding versionTest soundVersion
     version-passes f =
         hold-every (lt-ltb _ _ (f .owner-in) also le-leb _ _ (f .start-end) also le-leb _ _ (f .end-last) also previous-passes f also done)
 
-    pub edge-passes : EdgeFacts T k → timeBefore (T .edge) k < T .edge k .time → edgeTest T k ≡ true
+    pub edge-passes : EdgeFacts T k → timeBefore (T .edge) k ≤ T .edge k .time → edgeTest T k ≡ true
     unfolding edgeTest mayFollow
     edge-passes f l =
         hold-every
@@ -50,7 +51,7 @@ module _ (T : Trail) where
         also f .source-fits
         also f .target-fits
         also le-leb _ _ (f .time-low)
-        also lt-ltb _ _ l
+        also le-leb _ _ l
         also le-leb _ _ (f .time-last)
         also le-leb _ _ (f .count-low)
         also le-leb _ _ (f .last-low)
@@ -58,9 +59,9 @@ module _ (T : Trail) where
         also done)
 
   module _ (f : RowFacts T) where
-    after : (k : ℕ) → k < T .counts .edges → timeBefore (T .edge) k < T .edge k .time
-    after zero l = let h = f .edge zero l .time-low in rw (sym (timeBefore-zero (T .edge))) h
-    after (suc k) l = rw (timeBefore-suc (T .edge) k) (f .rises k l)
+    after : (k : ℕ) → k < T .counts .edges → timeBefore (T .edge) k ≤ T .edge k .time
+    after zero l = rw (sym (timeBefore-zero (T .edge))) (omega arith)
+    after (suc k) l = rw (timeBefore-suc (T .edge) k) (f .times-ordered k l)
 
     pub facts-sound : (cap : Capacity) → CountFacts cap (T .counts) → isSound cap T ≡ true
     unfolding isSound

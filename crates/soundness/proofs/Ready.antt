@@ -57,6 +57,5 @@ module _ (c : Counts) (es vs ds owners₀ : List ℕ) (f : RowsReady c (tables e
         → u ≡ isSound (capacityOf (tables es vs ds)) T
     unfolding isSound entityTest versionTest
     coded-sound u q =
-        let d : allBelow (codedTest c owners (edgeAt ds)) (c .edges) ≡ allBelow (edgeTest T) (c .edges)
-        = λ i. allBelow (λ k. coded-is T owners (v .1 (not-false t t-true)) k i) (c .edges) in
+        let d : allBelow (codedTest c owners (edgeAt ds)) (c .edges) ≡ allBelow (edgeTest T) (c .edges) = coded-is T owners (v .1 (not-false t t-true)) (c .edges) in
         rw (f .counts, f .entities, true-by-not _ t (v .0) t-true, ← d) q

@@ -78,8 +78,8 @@ module _ (T : Trail) where
       (λ x l q. signed-keeps T x l q s p)
 
   module _ (cap : Capacity) (f : RowFacts T) (e : Event) where
-    -- the end becomes the event's time, which is above every end
-    widened-ends : T .counts .last < e .time → (o : ℕ) (r : VersionRow) → r .end ≡ e .time → Ends (put (T .version) o r)
+    -- the end becomes the event's time, which no end is above
+    widened-ends : T .counts .last ≤ e .time → (o : ℕ) (r : VersionRow) → r .end ≡ e .time → Ends (put (T .version) o r)
     widened-ends p o r q k l =
         let i = f .version k l .end-last in
         ⊎-elim (λ c. rw c (omega arith)) (λ c. rw c (omega arith)) (put-cases (T .version) o r k)
@@ -94,7 +94,7 @@ module _ (T : Trail) where
         extends-stay _ (repeated-extends cap T e k p) (λ x l. inl refl) (λ k l. omega arith) (λ j l. repeated-edges cap T e k p j)
         (λ x l s. happened-keeps T x l s cap f e (Repeat k) q p)
     happened-stay Widen q p =
-        extends-stay _ (widened-extends cap T e Widen p) (λ x l. inl refl) (widened-ends (p .later) _ _ refl) (λ k l. inl (old-row T e _ k l))
+        extends-stay _ (widened-extends cap T e Widen p) (λ x l. inl refl) (widened-ends (p .not-earlier) _ _ refl) (λ k l. inl (old-row T e _ k l))
         (λ x l s. happened-keeps T x l s cap f e Widen q p)
     happened-stay Renew q p =
         extends-stay _ (renewed-extends cap T e Renew p) renewed-latest (added-ends _) (λ k l. inl (old-row T e _ k l))

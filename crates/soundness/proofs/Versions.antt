@@ -6,7 +6,7 @@ use mathlib.Core.Bool.{Bool, true, false}
 use mathlib.Core.List.{List, []}
 use lib.ListN.{length, getD, set}
 use lib.Seq.{getD-set-same, getD-set-other}
-use lib.Dec.{ltb}
+use lib.Dec.{leb}
 use borrow.Author.Tests.{ltb-true}
 use Rattle.rows.specs.declared.Counts.{Counts}
 use Rattle.rows.specs.declared.VersionRow.{VersionRow}
@@ -24,7 +24,7 @@ module _ (k : ℕ) (v p r : VersionRow) (q : r ≡ p) (s : v .start ≡ 0 → �
   unfolding soundPrevious mayFollow
   previous-apart h = rw (← q) (search tests depth 16)
 
-  pub previous-same : r .entity .0 ≡ v .entity .0 → ltb (r .start) (v .start) ≡ soundPrevious k v p
+  pub previous-same : r .entity .0 ≡ v .entity .0 → leb (r .start) (v .start) ≡ soundPrevious k v p
   unfolding soundPrevious mayFollow
   previous-same h = rw (← q) (search tests depth 16)
 

@@ -1,4 +1,4 @@
--- What sound tables (document 01, "Tables"; document 02, 2.1 and 2.4) give for each row.
+-- What sound tables (document 01, "Tables"; document 02, 2.1, 2.4 and 2.5) give for each row.
 use Prim.Native.Nat.{ℕ, suc, _≤_, _<_}
 use mathlib.Core.Path.{_≡_}
 use mathlib.Core.Bool.{true}
@@ -27,7 +27,7 @@ pub record VersionFacts (T : Trail) (k : ℕ) : Type 0 where
   pub first : T .version k .start ≡ 0 → T .version k .previous .0 ≡ none
   pub previous-in : (T .version k .start ≡ 0 → ⊥) → T .version k .previous .0 < k
   pub previous-owner : (T .version k .start ≡ 0 → ⊥) → ownerOf T (T .version k .previous .0) ≡ ownerOf T k
-  pub previous-start : (T .version k .start ≡ 0 → ⊥) → T .version (T .version k .previous .0) .start < T .version k .start
+  pub previous-start : (T .version k .start ≡ 0 → ⊥) → T .version (T .version k .previous .0) .start ≤ T .version k .start
 
 pub record EdgeFacts (T : Trail) (k : ℕ) : Type 0 where
   pub from-in : T .edge k .from .0 < T .counts .versions
@@ -47,7 +47,7 @@ pub record RowFacts (T : Trail) : Type 0 where
   pub entity : (x : ℕ) → x < T .counts .entities → EntityFacts T x
   pub version : (k : ℕ) → k < T .counts .versions → VersionFacts T k
   pub edge : (k : ℕ) → k < T .counts .edges → EdgeFacts T k
-  -- edge times rise strictly
-  pub rises : (k : ℕ) → suc k < T .counts .edges → T .edge k .time < T .edge (suc k) .time
+  -- edge times do not fall
+  pub times-ordered : (k : ℕ) → suc k < T .counts .edges → T .edge k .time ≤ T .edge (suc k) .time
   -- the counts sum to accepted
   pub sum : countSum (T .edge) (T .counts .edges) ≡ T .counts .accepted

@@ -1,5 +1,5 @@
 -- Parts of the test of sound tables that single functions compute. Edges are tested by the codes of the entities at their ends.
-use Prim.Native.Nat.{ℕ, _+_, _*_, _%_, _≤_, _<_}
+use Prim.Native.Nat.{ℕ, _+_, _-_, _*_, _%_, _≤_, _<_}
 use mathlib.Core.Path.{_≡_}
 use mathlib.Core.Bool.{Bool, true, not, _||_, cond}
 use mathlib.Core.List.{List, [], _∷_}
@@ -12,7 +12,7 @@ use Rattle.rows.specs.Capacity.{mostEntities, versionCapacity}
 use Rattle.record.specs.Layout.{mostKind, kindNo}
 use Rattle.record.specs.declared.Kind.the-variants.{Write, Fork}
 use Rattle.rules.specs.Trail.{Tables, Trail, capacityOf, trailOf, ownerOf}
-use Rattle.rules.specs.Sound.{every, allBelow, soundCounts, entityTest, sourceFits, targetFits, mayFollow, timeBefore}
+use Rattle.rules.specs.Sound.{every, allBelow, soundCounts, entityTest, sourceFits, targetFits, mayFollow}
 use Rattle.rules.specs.KeptLog.{declaredSort}
 
 -- the sort, as declared, that a kind asks for: of its source, and of its target
@@ -46,7 +46,7 @@ pub record VersionsReady (c : Counts) (entities versions owners : List ℕ) : Ty
 unfoldable pub sortsFit : ℕ → ℕ → ℕ → Bool
 sortsFit kind s t = every (leb 1 kind ∷ sourceFits kind s ∷ targetFits kind t ∷ [])
 
--- an edge of row e after one at time b, from an entity of code x to one of code y; its last time is up to last, and so its time is too
+-- an edge of row e, whose time is to be at least b, from an entity of code x to one of code y; its last time is up to last, and so its time is too
 unfoldable pub soundCodes : ℕ → ℕ → EdgeRow → ℕ → ℕ → Bool
 soundCodes last b e x y =
     every
@@ -67,6 +67,10 @@ codedEdge c owners b e =
     ∷ soundCodes (c .last) b e (getD owners (e .from .0) 0) (getD owners (e .to .0) 0)
     ∷ [])
 
+-- the least time that edge k may have: 1 if it is the first, else the time of the edge before, which is 1 or more if the edges before passed
+unfoldable pub leastTime : (ℕ → EdgeRow) → ℕ → ℕ
+leastTime E k = cond (eqb k 0) 1 (E (k - 1) .time)
+
 -- the test of edge k
 unfoldable pub codedTest : Counts → List ℕ → (ℕ → EdgeRow) → ℕ → Bool
-codedTest c owners E k = codedEdge c owners (timeBefore E k) (E k)
+codedTest c owners E k = codedEdge c owners (leastTime E k) (E k)

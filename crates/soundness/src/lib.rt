@@ -74,7 +74,7 @@ fn previous_ok(versions: &[u32], n: VersionNo, v: VersionRow) -> bool
     if p.entity.0 != v.entity.0 {
         return false;
     }
-    p.start < v.start
+    p.start <= v.start
 }
 
 fn version_ok(c: Counts, versions: &[u32], n: VersionNo, v: VersionRow) -> bool
@@ -111,24 +111,24 @@ fn sorts_fit(kind: u32, a: u16, b: u16) -> bool
     (FITS >> place) % 2 == 1
 }
 
-// An edge of row e after one at time before, from an entity of code a to one of code b. Edges of all kinds are mixed, so it
-// does not branch on which kind or sort it has.
-fn codes_ok(last: u32, before: u32, e: EdgeRow, a: u16, b: u16) -> bool
+// An edge of row e, whose time is to be at least least, from an entity of code a to one of code b. Edges of all kinds are mixed,
+// so it does not branch on which kind or sort it has.
+fn codes_ok(last: u32, least: u32, e: EdgeRow, a: u16, b: u16) -> bool
     requires { ⌜ e .kind ≤ mostKind ⌝ }
-    ensures { λ z. ⌜ z ≡ soundCodes last before e a b ⌝ }
+    ensures { λ z. ⌜ z ≡ soundCodes last least e a b ⌝ }
 {
     sorts_fit(e.kind, a, b)
         & (a != b)
-        & (before < e.time)
+        & (least <= e.time)
         & (1 <= e.count)
         & (e.time <= e.last)
         & (e.last <= last)
 }
 
-// The row e is of an edge after one at time before; owners has the code of each version's entity.
-fn edge_ok(c: Counts, owners: &[u16], before: u32, e: EdgeRow) -> bool
+// An edge of row e, whose time is to be at least least; owners has the code of each version's entity.
+fn edge_ok(c: Counts, owners: &[u16], least: u32, e: EdgeRow) -> bool
     requires { ⌜ c .versions ≤ length (now owners) ⌝ }
-    ensures { λ z. ⌜ z ≡ codedEdge c (now (owners .entry)) before e ⌝ }
+    ensures { λ z. ⌜ z ≡ codedEdge c (now (owners .entry)) least e ⌝ }
 {
     if c.versions <= e.from.0 {
         return false;
@@ -141,7 +141,7 @@ fn edge_ok(c: Counts, owners: &[u16], before: u32, e: EdgeRow) -> bool
     }
     let i = e.from.0 as usize;
     let j = e.to.0 as usize;
-    codes_ok(c.last, before, e, owners[i], owners[j])
+    codes_ok(c.last, least, e, owners[i], owners[j])
 }
 
 fn counts_ok(c: Counts, entities: &[u32], versions: &[u32], edges: &[u32]) -> bool
@@ -206,20 +206,21 @@ fn versions_ok(c: Counts, entities: &[u32], versions: &[u32], owners: &mut [u16]
     true
 }
 
-// Keeps the time of the edge before, and the sum of the counts, which takes at most 50 bits.
+// Keeps the least time of the next edge, at first 1 and then the time of the edge before, and the sum of the counts, which takes
+// at most 50 bits.
 fn edges_ok(c: Counts, owners: &[u16], edges: &[u32]) -> bool
     requires { ⌜ (c .versions ≤ length (now owners)) × (c .edges ≤ edgeCapacity (now edges)) ⌝ }
     ensures { λ z. ⌜ z ≡ (allBelow (codedTest c (now (owners .entry)) (edgeAt (now (edges .entry)))) (c .edges)
         && eqb (countSum (edgeAt (now (edges .entry))) (c .edges)) (c .accepted)) ⌝ }
 {
     let n = c.edges;
-    let mut before: u32 = 0;
+    let mut least: u32 = 1;
     let mut sum: u64 = 0;
     let mut k: u32 = 0;
     while k < n {
         let e = rows::edge_in(edges, EdgeNo(k));
-        if edge_ok(c, owners, before, e) {
-            before = e.time;
+        if edge_ok(c, owners, least, e) {
+            least = e.time;
             sum += e.count as u64;
             k += 1;
         } else {

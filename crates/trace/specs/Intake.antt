@@ -14,7 +14,7 @@ use Rattle.closure.specs.Arcs.{Marked}
 unfoldable pub entersBy : ℕ → ℕ → EdgeRow → Bool
 entersBy s t e = eqb (e .to .0) s && leb (e .time) t
 
--- the intake of version s by the first n edges: edge times rise, so it is the time of the last edge that does, else the version's start
+-- the intake of version s by the first n edges: edge times do not fall, so it is the time of the last edge that does, else the version's start
 unfoldable pub lastIntake : (ℕ → VersionRow) → (ℕ → EdgeRow) → ℕ → ℕ → ℕ → ℕ
 lastIntake W E s t zero = W s .start
 lastIntake W E s t (suc k) = cond (entersBy s t (E k)) (E k .time) (lastIntake W E s t k)

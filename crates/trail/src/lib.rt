@@ -57,8 +57,8 @@ pub extern "C" fn slt_backward(
 }
 
 // Marks what the start version of any of the members at the time leads to, and gives the earliest of their intakes, 0 for an empty
-// list. In a trail grown from a fresh one: what a member reached by events after its latest kept intake at or before the time, by any
-// event if it has none.
+// list. In a trail grown from a fresh one: what a member reached by events accepted after its latest kept intake at or before the time,
+// by any event if it has none.
 #[no_mangle]
 pub extern "C" fn slt_forward(
     counts: Counts,

@@ -1,13 +1,13 @@
--- The invariant: every edge passed so far meets the test, `before` is the time of the edge before, and `sum` is the
+-- The invariant: every edge passed so far meets the test, `least` is the least time of the next one, and `sum` is the
 -- sum of their counts, at most 2^32 - 1 each. The measure is how many are left.
 use Prim.Native.Nat.{_*_, _≤_, _-_}
 use mathlib.Core.Path.{_≡_, refl}
 use mathlib.Core.Bool.{true}
 use Rattle.rows.specs.Rows.{edgeAt}
 use Rattle.rows.specs.Capacity.{edgeCapacity}
-use Rattle.rules.specs.Sound.{allBelow, timeBefore, countSum}
-use Rattle.soundness.specs.Parts.{codedTest}
-use Rattle.soundness.proofs.Edges.{timeBefore-zero, time-next, edges-stop, edges-next, sum-read, edges-end}
+use Rattle.rules.specs.Sound.{allBelow, countSum}
+use Rattle.soundness.specs.Parts.{leastTime, codedTest}
+use Rattle.soundness.proofs.Edges.{leastTime-zero, time-next, edges-stop, edges-next, sum-read, edges-end}
 use Rattle.soundness.proofs.Sums.{sum-zero}
 use borrow.Author.Needs.{needs}
 use native.Mathlib.Omega.{arith}
@@ -16,16 +16,16 @@ use Rattle.soundness.proofs.edges_ok.Statement.{statement}
 use Rattle.soundness.proofs.edges_ok.Tie as tie
 
 abbrev Inv-loop : tie.InvT-loop
-Inv-loop c owners edges n before₀ sum₀ k₀ before sum k =
-    (k ≤ n) × (before ≡ timeBefore (edgeAt edges) k) × (allBelow (codedTest c owners (edgeAt edges)) k ≡ true)
+Inv-loop c owners edges n least₀ sum₀ k₀ least sum k =
+    (k ≤ n) × (least ≡ leastTime (edgeAt edges) k) × (allBelow (codedTest c owners (edgeAt edges)) k ≡ true)
     × (sum ≡ countSum (edgeAt edges) k) × (sum ≤ k * 4294967295)
 
 abbrev μ-loop : tie.MeasureT-loop
-μ-loop c owners edges n before₀ sum₀ k₀ before sum k = n - k
+μ-loop c owners edges n least₀ sum₀ k₀ least sum k = n - k
 
 loop-holds : tie.Need-loop-holds Inv-loop μ-loop
 unfolding allBelow
-loop-holds c = (omega arith, timeBefore-zero _, refl, sum-zero (λ (r : EdgeRow). r .count) _, omega arith)
+loop-holds c = (omega arith, leastTime-zero _, refl, sum-zero (λ (r : EdgeRow). r .count) _, omega arith)
 
 edge-in-requires : tie.Need-edge-in-requires Inv-loop μ-loop
 edge-in-requires c κs = search needs
