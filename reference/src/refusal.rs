@@ -19,7 +19,7 @@ pub const NOT_NEXT: u32 = 6;
 pub const SAME_ENTITY: u32 = 7;
 /// Source or target of the wrong sort, or a signature on a subject.
 pub const WRONG_SORT: u32 = 8;
-/// Time not above the last accepted time.
+/// Time 0, or a time before the last accepted one.
 pub const TIME: u32 = 9;
 /// No entity row left.
 pub const NO_ENTITY_ROW: u32 = 10;

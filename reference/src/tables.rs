@@ -64,6 +64,11 @@ impl Tables {
         write_row(&mut self.entities, number, row.numbers());
     }
 
+    /// Writes a version row.
+    pub fn set_version(&mut self, number: u32, row: VersionRow) {
+        write_row(&mut self.versions, number, row.numbers());
+    }
+
     /// Writes an edge row.
     pub fn set_edge(&mut self, number: u32, row: EdgeRow) {
         write_row(&mut self.edges, number, row.numbers());

@@ -3,12 +3,12 @@
 use crate::answers::{BackwardAnswer, ForwardAnswer};
 use crate::causal::{leading_to, reached_from};
 use crate::full_list::FullList;
-use crate::record::Event;
 use crate::refusal;
 use std::collections::BTreeSet;
 
 impl FullList {
-    /// The entities with a causal path to this one in by the time.
+    /// The entities with a causal path to this one in by the time: every event
+    /// at or before it counts.
     pub fn backward_entities(&self, entity: u16, time: u32) -> BTreeSet<u16> {
         let mut events = self.events();
         events.retain(|event| event.time <= time);
@@ -18,18 +18,20 @@ impl FullList {
     /// The entities reached from the latest kept intake at or before the time
     /// through events accepted after it alone; from time 0 by any causal path.
     pub fn forward_entities(&self, entity: u16, time: u32) -> BTreeSet<u16> {
-        let mut events = self.events();
-        if let Some(intake) = self.latest_intake(entity, time) {
-            events.retain(|event| event.time > intake.time);
-        }
-        reached_from(entity, &events)
+        let first = match self.latest_intake(entity, time) {
+            Some(intake) => intake + 1,
+            None => 0,
+        };
+        reached_from(entity, &self.events()[first..])
     }
 
-    /// The latest kept intake of the entity at or before the time.
-    pub fn latest_intake(&self, entity: u16, time: u32) -> Option<Event> {
-        let mut kept = self.kept_events();
-        kept.retain(|event| event.target == entity && event.time <= time);
-        kept.last().copied()
+    /// The place, from 0, of the latest kept intake of the entity at or before
+    /// the time: the last accepted of them.
+    pub fn latest_intake(&self, entity: u16, time: u32) -> Option<usize> {
+        self.accepted.iter().rposition(|accepted| {
+            let event = accepted.event;
+            accepted.kept && event.target == entity && event.time <= time
+        })
     }
 
     /// Whether the accepted event with this index, from 0, gives its target
@@ -88,7 +90,7 @@ impl FullList {
     /// The time of the latest kept intake at or before the time, else 0.
     fn intake_time(&self, entity: u16, time: u32) -> u32 {
         let intake = self.latest_intake(entity, time);
-        intake.map_or(0, |event| event.time)
+        intake.map_or(0, |place| self.accepted[place].event.time)
     }
 
     /// The first of 5 and 14 to hold, or 0.

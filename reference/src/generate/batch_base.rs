@@ -16,10 +16,15 @@ use crate::tables::Tables;
 /// One in this many bases has no records: a batch before took them in.
 const BATCH_BEFORE_ONE_IN: usize = 4;
 
+/// The time from which events are made, so that there is an earlier one above
+/// 0.
+const FIRST_TIME: u32 = 2;
+
 /// A grown trail and records it takes in. After them `object`, `subject` and
 /// `written` are the last entities, and the last event is the write from
 /// `subject` to `written`, the only event of the three. Where the fault asks
-/// for it, both objects are signed then, and `subject` reads `object`.
+/// for it, both objects are signed then, and `subject` reads `object`; or
+/// there is no event at all, not even the write.
 pub struct Base {
     pub version: FileVersion,
     pub tables: Tables,
@@ -28,6 +33,8 @@ pub struct Base {
     pub object: u16,
     pub subject: u16,
     pub written: u16,
+    /// A time for the next event: the last time or the one after it.
+    pub time: u32,
 }
 
 impl Base {
@@ -36,15 +43,21 @@ impl Base {
         let tables = lend_anew(random, &grown, roomy_lengths(grown.counts));
         let mut source = RecordSource::after_tables(&tables);
         let version = fault.version(random);
-        let count = random.below(6);
-        let mut records = source.records(random, version, count);
+        let mut records = Vec::new();
+        if !fault.is_at_first_event() {
+            source.last = source.last.max(FIRST_TIME);
+            let count = random.below(6);
+            records.extend(source.records(random, version, count));
+        }
         for sort in [Sort::Object, Sort::Subject, Sort::Object] {
             records.push(source.declaration_of(sort));
         }
         let written = source.sorts.len() as u16 - 1;
         let (object, subject) = (written - 2, written - 1);
-        let write = source.event_of(random, Kind::Write, subject, written);
-        records.push(Record::Event(write));
+        if !fault.is_at_first_event() {
+            let write = source.event_of(random, Kind::Write, subject, written);
+            records.push(Record::Event(write));
+        }
         if fault.signs() {
             records.extend([object, written].map(|entity| source.signature_of(entity)));
         }
@@ -52,14 +65,17 @@ impl Base {
             let read = source.event_of(random, Kind::Read, object, subject);
             records.push(Record::Event(read));
         }
+        let after = taken_in(&tables, version, &records);
+        let last = after.counts.last;
         let base = Base {
             version,
-            after: taken_in(&tables, version, &records),
+            after,
             tables,
             records,
             object,
             subject,
             written,
+            time: random.between(last.max(1), last + 1),
         };
         match random.one_in(BATCH_BEFORE_ONE_IN) {
             true => base.with_batch_before(random, fault),
@@ -105,13 +121,14 @@ impl Base {
         tables
     }
 
-    /// An event at a time above the last.
+    /// An event at a time that is accepted.
     pub fn event(&self, kind: Kind, source: u16, target: u16) -> Event {
+        let time = self.time;
         Event {
             kind,
             source,
             target,
-            time: self.after.counts.last + 1,
+            time,
         }
     }
 
@@ -121,8 +138,12 @@ impl Base {
     }
 }
 
-/// A grown trail, with an edge if accepted events are to be counted at one.
+/// A grown trail, with an edge if accepted events are to be counted at one;
+/// without an event if there is to be none.
 fn grown_for(random: &mut Random, fault: BatchFault) -> Tables {
+    if fault.is_at_first_event() {
+        return grown_tables(random, 1);
+    }
     loop {
         let count = random.below(30);
         let grown = grown_tables(random, count);

@@ -47,9 +47,9 @@ pub enum BatchFault {
     IntoSignedAndNoEdgeRow,
     IntoSignedAndNoVersionRow,
     SignedTwice,
-    TimeSame,
     TimeLower,
     TimeZero,
+    TimeZeroAtFirst,
     TimeAndAcceptedFull,
     NoEntityRow,
     NoEntityRowAndNoVersionRow,
@@ -107,9 +107,9 @@ impl BatchFault {
         BatchFault::IntoSignedAndNoEdgeRow,
         BatchFault::IntoSignedAndNoVersionRow,
         BatchFault::SignedTwice,
-        BatchFault::TimeSame,
         BatchFault::TimeLower,
         BatchFault::TimeZero,
+        BatchFault::TimeZeroAtFirst,
         BatchFault::TimeAndAcceptedFull,
         BatchFault::NoEntityRow,
         BatchFault::NoEntityRowAndNoVersionRow,
@@ -161,9 +161,9 @@ impl BatchFault {
             | BatchFault::SourceSortIntoSigned
             | BatchFault::TargetSortIntoSigned
             | BatchFault::SignatureOnSubject => 8,
-            BatchFault::TimeSame
-            | BatchFault::TimeLower
+            BatchFault::TimeLower
             | BatchFault::TimeZero
+            | BatchFault::TimeZeroAtFirst
             | BatchFault::TimeAndAcceptedFull => 9,
             BatchFault::NoEntityRow | BatchFault::NoEntityRowAndNoVersionRow => 10,
             BatchFault::NoVersionRowForDeclaration | BatchFault::NoVersionRowForEvent => 11,

@@ -7,6 +7,7 @@ use crate::full_list::FullList;
 use crate::generate::files::any_file;
 use crate::generate::lengths::{odd_lengths, roomy_lengths, tiny_lengths};
 use crate::generate::records::RecordSource;
+use crate::generate::ties::Ties;
 use crate::generate::traces::any_trace;
 use crate::kept_log::log_length;
 use crate::random::Random;
@@ -39,7 +40,9 @@ pub fn call_list(random: &mut Random, calls: usize) -> Vec<LentCall> {
 /// A batch that goes on from the list; the list takes it in.
 fn batch_after(random: &mut Random, list: &mut FullList, lengths: TableLengths) -> Call {
     let records = random.below(24);
-    let file = any_file(random, &mut RecordSource::after_list(list), records);
+    let ties = Ties::any(random);
+    let mut source = RecordSource::after_list(list).with_ties(ties);
+    let file = any_file(random, &mut source, records);
     list.batch(Capacity::of(lengths), &file);
     Call::Batch { file }
 }
@@ -67,11 +70,12 @@ pub fn any_call(random: &mut Random, tables: &Tables) -> Call {
 /// their rows get a file that starts from fresh.
 pub fn batch_on(random: &mut Random, tables: &Tables) -> Call {
     let rows_fit = tables.counts.entities as usize <= tables.view().capacity().entities;
-    let mut source = if rows_fit {
+    let source = if rows_fit {
         RecordSource::after_tables(tables)
     } else {
         RecordSource::fresh()
     };
+    let mut source = source.with_ties(Ties::any(random));
     let records = random.below(16);
     Call::Batch {
         file: any_file(random, &mut source, records),

@@ -1,5 +1,5 @@
 //! What each fault of a batch asks for: the version of the file, signed
-//! objects, tables without a row left.
+//! objects, no event before, tables without a row left.
 
 use crate::file_version::FileVersion;
 use crate::generate::batch_faults::BatchFault;
@@ -44,6 +44,11 @@ impl BatchFault {
     /// fault, so that an event into it would make a version.
     pub fn reads_signed(self) -> bool {
         self == BatchFault::IntoSignedAndNoVersionRow
+    }
+
+    /// Whether no event is to be accepted before the record at fault.
+    pub fn is_at_first_event(self) -> bool {
+        self == BatchFault::TimeZeroAtFirst
     }
 
     /// Whether no entity row is to be left.

@@ -70,9 +70,9 @@ fn spoil(random: &mut Random, source: &RecordSource, bytes: &mut [u8; RECORD_BYT
 fn careless_time(random: &mut Random, last: u32) -> u32 {
     match random.below(20) {
         0 => u32::MAX,
-        1..=4 => 0,
-        5..=9 => last.saturating_sub(1),
-        10..=15 => last,
+        1..=5 => 0,
+        6..=13 => last.saturating_sub(1),
+        14..=16 => last,
         _ => last.saturating_add(1),
     }
 }

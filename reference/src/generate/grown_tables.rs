@@ -5,12 +5,14 @@ use crate::capacity::TableLengths;
 use crate::generate::files::event_file;
 use crate::generate::lengths::{lend_anew, odd_lengths};
 use crate::generate::records::RecordSource;
+use crate::generate::ties::Ties;
 use crate::random::Random;
 use crate::tables::Tables;
 
 /// Tables into which a file of this many records was taken, at odd lengths.
 pub fn grown_tables(random: &mut Random, records: usize) -> Tables {
-    let file = event_file(random, &mut RecordSource::fresh(), records);
+    let mut source = RecordSource::fresh().with_ties(Ties::any(random));
+    let file = event_file(random, &mut source, records);
     let mut tables = fresh_tables(random, records);
     tables.batch(&file);
     let lengths = odd_lengths(random, tables.counts);

@@ -53,7 +53,7 @@ fn version_row(
     previous: Option<u32>,
 ) -> VersionRow {
     let start = match previous {
-        Some(number) => rows[number as usize].start + random.between(1, 9),
+        Some(number) => start_after(random, rows[number as usize].start),
         None => 0,
     };
     VersionRow {
@@ -61,6 +61,15 @@ fn version_row(
         start,
         end: start + random.between(0, 9),
         previous: previous.unwrap_or(NO_VERSION),
+    }
+}
+
+/// The start of a version whose previous starts at this time: the same, often,
+/// or a later one, above 0.
+fn start_after(random: &mut Random, previous: u32) -> u32 {
+    match random.below(3) {
+        0 => previous.max(1),
+        _ => previous + random.between(1, 9),
     }
 }
 
@@ -83,15 +92,15 @@ fn sort_of(entity: u32) -> Sort {
     Sort::ALL[(entity % 2) as usize]
 }
 
-/// Edges between any versions, at rising times.
+/// Edges between any versions, at times that do not fall and are often equal.
 fn edge_rows(random: &mut Random, versions: &[VersionRow], edges: u32) -> Vec<EdgeRow> {
-    let mut time = 0;
+    let mut time = 1;
     let mut rows = Vec::new();
     while rows.len() < edges as usize {
         let from = random.below(versions.len());
         let to = random.below(versions.len());
         if let Some(kind) = kind_between(random, versions[from].entity, versions[to].entity) {
-            time += random.between(1, 3);
+            time += random.between(0, 3);
             rows.push(EdgeRow::new(from as u32, to as u32, kind, time));
         }
     }

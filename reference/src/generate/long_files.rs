@@ -1,17 +1,19 @@
 //! Files of many records.
 
 use crate::file_builder::FileBuilder;
+use crate::generate::ties::Ties;
 use crate::random::Random;
 use crate::record::{Declaration, Event, Kind, Sort};
 use std::collections::BTreeSet;
 
 /// A file that declares this many entities, an object and a subject by turns,
-/// and then has this many events. A kind named twice comes twice as often.
+/// and then has this many events, one in three of them in the tick of the one
+/// before. A kind named twice comes twice as often.
 pub fn long_file(random: &mut Random, entities: u16, kinds: &[Kind], events: usize) -> Vec<u8> {
     let mut file = declarations(FileBuilder::new(), entities);
     let mut time = 0;
     for _ in 0..events {
-        time += random.between(1, 3);
+        time = Ties::Often.next_time(random, time);
         file = file.event(long_file_event(random, entities, kinds, time));
     }
     file.bytes()
@@ -30,7 +32,7 @@ pub fn long_signed_file(random: &mut Random, entities: u16, events: usize) -> Ve
             file = file.sign(*object);
             signed.extend(objects.pop());
         }
-        time += random.between(1, 3);
+        time = Ties::Often.next_time(random, time);
         file = file.event(event_into_unsigned(random, entities, &signed, time));
     }
     file.bytes()

@@ -2,6 +2,7 @@
 
 use crate::file_version::FileVersion;
 use crate::full_list::FullList;
+use crate::generate::ties::Ties;
 use crate::kept_log::event_of_edge;
 use crate::random::Random;
 use crate::record::{Declaration, Event, Kind, Record, Signature, Sort};
@@ -14,13 +15,15 @@ const FEW_ENTITIES: usize = 6;
 /// One in this many records of a version 2 file is a signature.
 const SIGNATURE_ONE_IN: usize = 14;
 
-/// What the next record must agree with, and the events to repeat.
+/// What the next record must agree with, the events to repeat, and how often
+/// an event has the last time again.
 #[derive(Clone, Debug, Default)]
 pub struct RecordSource {
     pub sorts: Vec<Sort>,
     pub signed: BTreeSet<u16>,
     pub last: u32,
     pub events: Vec<Event>,
+    pub ties: Ties,
 }
 
 impl RecordSource {
@@ -48,6 +51,7 @@ impl RecordSource {
             signed: signed.map(|(number, _)| number).collect(),
             last: tables.counts.last,
             events,
+            ties: Ties::default(),
         }
     }
 
@@ -58,7 +62,13 @@ impl RecordSource {
             signed: list.signed.clone(),
             last: list.last_time(),
             events: list.events(),
+            ties: Ties::default(),
         }
+    }
+
+    /// With ties as often as this says.
+    pub fn with_ties(self, ties: Ties) -> RecordSource {
+        RecordSource { ties, ..self }
     }
 
     /// The next record of a file of this version. It is noted as taken in.
@@ -106,24 +116,21 @@ impl RecordSource {
         Record::Signature(Signature { entity })
     }
 
-    /// An event of these, at a later time.
+    /// An event of these, at the last time or a later one.
     pub fn event_of(&mut self, random: &mut Random, kind: Kind, source: u16, target: u16) -> Event {
         let event = Event {
             kind,
             source,
             target,
-            time: self.later_time(random),
+            time: self.ties.next_time(random, self.last),
         };
         self.note(event);
         event
     }
 
-    /// An event, none if no two entities or no time will do. Half of the
-    /// events go the way of an earlier one, unless its target is signed now.
+    /// An event, none if no two entities will do. Half of the events go the
+    /// way of an earlier one, unless its target is signed now.
     fn event(&mut self, random: &mut Random) -> Option<Event> {
-        if self.last == u32::MAX {
-            return None;
-        }
         let is_open = |event: &Event| !self.signed.contains(&event.target);
         let earlier = random.pick(&self.events).filter(is_open);
         let (kind, source, target) = match earlier {
@@ -153,11 +160,6 @@ impl RecordSource {
         let mut entities = self.entities_of(sort);
         entities.retain(|entity| !self.signed.contains(entity));
         entities
-    }
-
-    /// A time one to three hundredths after the last.
-    fn later_time(&self, random: &mut Random) -> u32 {
-        self.last.saturating_add(random.between(1, 3))
     }
 
     fn note(&mut self, event: Event) {

@@ -89,7 +89,7 @@ fn record_at_fault(random: &mut Random, base: &Base, fault: BatchFault) -> [u8; 
         4 => record_with_field_fault(random, base, fault),
         6 | 10 => declaration_at_fault(base, fault),
         _ if fault == BatchFault::NoVersionRowForDeclaration => declaration_at_fault(base, fault),
-        _ => encode(Record::Event(event_at_fault(base, fault))),
+        _ => encode(Record::Event(event_at_fault(random, base, fault))),
     }
 }
 
@@ -155,7 +155,7 @@ fn declaration_at_fault(base: &Base, fault: BatchFault) -> [u8; RECORD_BYTES] {
     bytes
 }
 
-fn event_at_fault(base: &Base, fault: BatchFault) -> Event {
+fn event_at_fault(random: &mut Random, base: &Base, fault: BatchFault) -> Event {
     let (object, subject, written) = (base.object, base.subject, base.written);
     let next = base.next();
     let event = match fault {
@@ -182,14 +182,20 @@ fn event_at_fault(base: &Base, fault: BatchFault) -> Event {
         }
         _ => base.event(Kind::Write, subject, object),
     };
-    let last = base.after.counts.last;
     let time = match fault {
-        BatchFault::TimeSame => last,
         BatchFault::TimeLower | BatchFault::TimeAndAcceptedFull | BatchFault::IntoSignedAndTime => {
-            last - 1
+            earlier_time(random, base.after.counts.last)
         }
-        BatchFault::TimeZero | BatchFault::WrongSortAndTime => 0,
+        BatchFault::TimeZero | BatchFault::TimeZeroAtFirst | BatchFault::WrongSortAndTime => 0,
         _ => event.time,
     };
     Event { time, ..event }
+}
+
+/// A time above 0 and before the last, often just before it.
+fn earlier_time(random: &mut Random, last: u32) -> u32 {
+    match random.below(2) {
+        0 => last - 1,
+        _ => random.between(1, last - 1),
+    }
 }

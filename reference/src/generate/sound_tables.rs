@@ -69,27 +69,39 @@ fn version_rows(random: &mut Random, entities: usize, last: u32) -> Vec<VersionR
     rows
 }
 
-/// A version of the entity after the rows so far.
+/// A version of the entity after the rows so far; often one that starts in the
+/// tick of its previous.
 fn version_row(random: &mut Random, rows: &[VersionRow], entity: u32, last: u32) -> VersionRow {
-    let start = version_start(random, rows, entity, last);
-    let numbers: Vec<u32> = (0..rows.len() as u32)
-        .filter(|number| rows[*number as usize].entity == entity)
-        .filter(|number| rows[*number as usize].start < start)
+    let start_of = |number: u32| rows[number as usize].start;
+    let numbers = 0..rows.len() as u32;
+    let of_entity = numbers.filter(|number| rows[*number as usize].entity == entity);
+    let started: Vec<u32> = of_entity
+        .clone()
+        .filter(|number| start_of(*number) > 0)
         .collect();
+    let (start, previous) = match random.pick(&started) {
+        Some(number) if random.one_in(2) => (start_of(number), Some(number)),
+        _ => {
+            let start = version_start(random, rows, entity, last);
+            let may_be_previous = |number: &u32| start > 0 && start_of(*number) <= start;
+            let numbers: Vec<u32> = of_entity.filter(may_be_previous).collect();
+            (start, random.pick(&numbers))
+        }
+    };
     VersionRow {
         entity,
         start,
         end: random.between(start, last),
-        previous: random.pick(&numbers).unwrap_or(NO_VERSION),
+        previous: previous.unwrap_or(NO_VERSION),
     }
 }
 
-/// A start: 0, or above that of some version of the entity so far.
+/// A start: 0, which the first version of an entity has, or any above 0.
 fn version_start(random: &mut Random, rows: &[VersionRow], entity: u32, last: u32) -> u32 {
-    let of_entity = rows.iter().filter(|row| row.entity == entity);
-    match of_entity.map(|row| row.start).min() {
-        Some(lowest) if lowest < last && !random.one_in(4) => random.between(lowest + 1, last),
-        _ => 0,
+    let is_first = rows.iter().all(|row| row.entity != entity);
+    match is_first || last == 0 || random.one_in(4) {
+        true => 0,
+        false => random.between(1, last),
     }
 }
 
@@ -108,14 +120,14 @@ fn entity_rows(random: &mut Random, sorts: &[Sort], versions: &[VersionRow]) -> 
     rows
 }
 
-/// Up to twelve edges between any versions, at rising times.
+/// Up to twelve edges between any versions, at times that do not fall.
 fn edge_rows(
     random: &mut Random,
     sorts: &[Sort],
     versions: &[VersionRow],
     last: u32,
 ) -> Vec<EdgeRow> {
-    let times = rising_times(random, last);
+    let times = edge_times(random, last);
     let mut rows = Vec::new();
     for time in times {
         rows.extend(edge_row(random, sorts, versions, time));
@@ -123,14 +135,16 @@ fn edge_rows(
     rows
 }
 
-fn rising_times(random: &mut Random, last: u32) -> Vec<u32> {
+/// Times from one tick up to twelve, so that many are equal.
+fn edge_times(random: &mut Random, last: u32) -> Vec<u32> {
     if last == 0 {
         return Vec::new();
     }
     let count = random.below(13);
-    let mut times: Vec<u32> = (0..count).map(|_| random.between(1, last)).collect();
+    let ticks = 1 + random.below(12);
+    let ticks: Vec<u32> = (0..ticks).map(|_| random.between(1, last)).collect();
+    let mut times: Vec<u32> = (0..count).filter_map(|_| random.pick(&ticks)).collect();
     times.sort_unstable();
-    times.dedup();
     times
 }
 

@@ -139,20 +139,28 @@ fn break_version(random: &mut Random, tables: &mut Tables, clause: Clause) -> Op
     Some(())
 }
 
+/// Gives a version another previous or another start: for a start of 0 where
+/// there is a previous, either; for a previous that starts later, often later
+/// by one.
 fn break_previous(random: &mut Random, tables: &mut Tables, clause: Clause) -> Option<()> {
     let number = any_version(random, tables)?;
     let previous = match clause {
         Clause::NoPreviousWhereStartIsZero
         | Clause::PreviousIsOfSameEntity
-        | Clause::PreviousHasLowerStart => any_version(random, tables)?,
+        | Clause::PreviousStartsNoLater => any_version(random, tables)?,
         Clause::PreviousWhereStartIsNotZero => NO_VERSION,
         Clause::PreviousHasLowerNumber => number_from(random, number),
         _ => return None,
     };
     let first = number as usize * VERSION_ROW;
+    if clause == Clause::NoPreviousWhereStartIsZero && random.one_in(2) {
+        tables.versions[first + 1] = 0;
+        return Some(());
+    }
     tables.versions[first + 3] = previous;
-    if clause == Clause::PreviousHasLowerStart && random.one_in(2) {
-        tables.versions[first + 1] = tables.view().version(previous).start;
+    if clause == Clause::PreviousStartsNoLater && random.one_in(2) {
+        let start = tables.view().version(previous).start;
+        tables.versions[first + 1] = start.checked_sub(1)?;
     }
     Some(())
 }

@@ -152,8 +152,8 @@ impl Trail {
         Ok(())
     }
 
-    /// Numbers and starts fall along the chain, so the first version that has
-    /// started is the one.
+    /// Along the chain numbers fall and starts do not rise, so the first
+    /// version that has started is the one.
     fn start_version(&self, entity: u32, time: u32) -> u32 {
         let mut number = self.entities[entity as usize].latest;
         while self.versions[number as usize].row.start > time {
@@ -162,7 +162,7 @@ impl Trail {
         number
     }
 
-    /// The list has the newest edge first.
+    /// The list has the newest edge first, and times along it do not rise.
     fn intake(&self, start: u32, time: u32) -> u32 {
         let version = &self.versions[start as usize];
         let mut edge = version.entering;

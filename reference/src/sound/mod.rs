@@ -48,7 +48,7 @@ fn holds(clause: Clause, view: TableView) -> bool {
         | Clause::PreviousWhereStartIsNotZero
         | Clause::PreviousHasLowerNumber
         | Clause::PreviousIsOfSameEntity
-        | Clause::PreviousHasLowerStart => {
+        | Clause::PreviousStartsNoLater => {
             (0..view.counts.versions).all(|number| version_holds(clause, view, number))
         }
         Clause::FromExists
@@ -64,7 +64,7 @@ fn holds(clause: Clause, view: TableView) -> bool {
         | Clause::EdgeLastAtMostLast => {
             (0..view.counts.edges).all(|number| edge_holds(clause, view, number))
         }
-        Clause::EdgeTimesRise => edge_times_rise(view),
+        Clause::EdgeTimesDoNotFall => edge_times_do_not_fall(view),
         Clause::EdgeCountsSumToAccepted => edge_counts_sum_to_accepted(view),
     }
 }
@@ -112,16 +112,16 @@ fn version_holds(clause: Clause, view: TableView, number: u32) -> bool {
 
 /// The clauses on the previous version of a version that has one.
 fn previous_holds(clause: Clause, view: TableView, number: u32) -> bool {
-    let later = view.version(number);
+    let own = view.version(number);
     if clause == Clause::PreviousHasLowerNumber {
-        return later.previous < number;
+        return own.previous < number;
     }
-    let Some(previous) = version(view, later.previous) else {
+    let Some(previous) = version(view, own.previous) else {
         return true;
     };
     match clause {
-        Clause::PreviousIsOfSameEntity => previous.entity == later.entity,
-        Clause::PreviousHasLowerStart => previous.start < later.start,
+        Clause::PreviousIsOfSameEntity => previous.entity == own.entity,
+        Clause::PreviousStartsNoLater => previous.start <= own.start,
         _ => true,
     }
 }
@@ -169,8 +169,8 @@ fn has_sort(view: TableView, number: u32, sort: Sort) -> bool {
     }
 }
 
-fn edge_times_rise(view: TableView) -> bool {
-    (1..view.counts.edges).all(|number| view.edge(number - 1).time < view.edge(number).time)
+fn edge_times_do_not_fall(view: TableView) -> bool {
+    (1..view.counts.edges).all(|number| view.edge(number - 1).time <= view.edge(number).time)
 }
 
 fn edge_counts_sum_to_accepted(view: TableView) -> bool {

@@ -118,7 +118,10 @@ fn rows_in_use_change_only_in_sort_latest_end_count_and_last() {
             for number in 0..before.counts.edges {
                 let (old, mut new) = (old.edge(number), new.edge(number));
                 assert!(old.count <= new.count && old.last <= new.last);
-                assert_eq!(old.count < new.count, before.counts.last < new.last);
+                match old.count < new.count {
+                    true => assert!(before.counts.last <= new.last),
+                    false => assert_eq!(old.last, new.last),
+                }
                 counted += new.count - old.count;
                 (new.count, new.last) = (old.count, old.last);
                 assert_eq!(old, new);

@@ -93,3 +93,10 @@ pub fn times_around(events: &[Event]) -> BTreeSet<u32> {
     let times = events.iter().flat_map(around);
     times.chain([0, u32::MAX]).collect()
 }
+
+/// The entities that a mark buffer marks.
+pub fn marks_of(marks: &[u8]) -> Vec<u32> {
+    let numbered = (0..).zip(marks);
+    let marked = numbered.filter(|(_, mark)| **mark == 1);
+    marked.map(|(entity, _)| entity).collect()
+}

@@ -78,7 +78,7 @@ fn a_repeat_in_another_batch_is_counted_alike() {
 #[test]
 fn a_refused_event_adds_to_no_count() {
     let refused = [
-        (FileBuilder::new().read(3, 1, 7), 9),
+        (FileBuilder::new().read(3, 1, 6), 9),
         (FileBuilder::new().read(3, 1, 0), 9),
         (FileBuilder::new().read(3, 2, 8), 8),
         (FileBuilder::new().read(3, 4, 8), 5),

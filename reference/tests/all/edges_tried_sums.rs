@@ -67,7 +67,7 @@ fn a_refused_event_counts_none() {
         (read().read(0, 4, 9), roomy, 5),
         (read().read(1, 1, 9), roomy, 7),
         (read().read(1, 0, 9), roomy, 8),
-        (read().read(3, 1, 8), roomy, 9),
+        (read().read(3, 1, 7), roomy, 9),
         (read().write(1, 3, 9), no_version, 11),
         (read().write(1, 0, 9), no_edge, 12),
     ];

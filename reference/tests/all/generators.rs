@@ -18,7 +18,7 @@ fn the_same_seed_gives_the_same() {
         let calls = call_list(&mut random, 10);
         let sound = sound_tables(&mut random);
         let unsound = unsound_tables(&mut random, Clause::LatestExists);
-        let file = refused_batch(&mut random, BatchFault::TimeSame).file;
+        let file = refused_batch(&mut random, BatchFault::TimeLower).file;
         (calls, sound, unsound, file)
     };
     assert_eq!(make(), make());

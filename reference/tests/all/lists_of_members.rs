@@ -119,7 +119,7 @@ fn assert_is_union(random: &mut Random, tables: &Tables) -> Forward {
 fn members_mark_together_what_they_mark_alone() {
     let mut random = Random::new(90);
     let mut with_intake = 0;
-    for _ in 0..800 {
+    for _ in 0..1_000 {
         for tables in [grown_tables(&mut random, 40), sound_tables(&mut random)] {
             let together = assert_is_union(&mut random, &tables);
             with_intake += u32::from(together.answer.intake > 0);

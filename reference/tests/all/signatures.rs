@@ -132,10 +132,12 @@ fn the_order_around_17() {
     assert_eq!(answer_of(file.clone().fork(1, 2, 0)), (8, 6));
     assert_eq!(answer_of(file.clone().read(0, 2, 0)), (8, 6));
     assert_eq!(answer_of(file.clone().write(1, 2, 0)), (17, 6));
-    assert_eq!(answer_of(file.clone().write(1, 2, 5)), (17, 6));
+    assert_eq!(answer_of(file.clone().write(1, 2, 4)), (17, 6));
+    assert_eq!(answer_of(file.clone().write(3, 2, 4)), (17, 6));
     assert_eq!(answer_of(file.clone().write(3, 2, 5)), (17, 6));
-    assert_eq!(answer_of(file.clone().write(1, 0, 5)), (9, 6));
-    assert_eq!(answer_of(file.read(2, 1, 5)), (9, 6));
+    assert_eq!(answer_of(file.clone().write(1, 0, 4)), (9, 6));
+    assert_eq!(answer_of(file.clone().read(2, 1, 4)), (9, 6));
+    assert_eq!(answer_of(file.read(2, 1, 5)), (0, 7));
 }
 
 /// Each kind between entities of each sort, all objects among them signed.

@@ -39,6 +39,8 @@ fn numbers_that_may_change() {
     assert_eq!(broken_by(|tables| tables.versions[2] = 7), []);
     assert_eq!(broken_by(|tables| tables.versions[17] = 1), []);
     assert_eq!(broken_by(|tables| tables.edges[15] = 3), []);
+    assert_eq!(broken_by(|tables| tables.edges[15] = 2), []);
+    assert_eq!(broken_by(|tables| tables.edges[9] = 1), []);
     assert_eq!(broken_by(|tables| tables.edges[0] = 3), []);
     assert_eq!(broken_by(|tables| tables.entities[0] = 2), []);
     assert_eq!(broken_by(|tables| tables.entities[4] = 2), []);
@@ -121,7 +123,7 @@ fn numbers_that_may_not_change() {
         (|tables| tables.edges[2] = 6, Clause::KindIsOneToFive),
         (|tables| tables.edges[6] = 0, Clause::SourceHasSortOfKind),
         (|tables| tables.edges[3] = 0, Clause::EdgeTimeAtLeastOne),
-        (|tables| tables.edges[9] = 1, Clause::EdgeTimesRise),
+        (|tables| tables.edges[15] = 1, Clause::EdgeTimesDoNotFall),
     ];
     for (change, clause) in changes {
         assert_eq!(broken_by(change), [clause]);
@@ -129,7 +131,7 @@ fn numbers_that_may_not_change() {
 }
 
 #[test]
-fn previous_version_starts_earlier() {
+fn previous_version_starts_no_later() {
     let entity = EntityRow { sort: 0, latest: 2 };
     let version = |start, previous| VersionRow {
         entity: 0,
@@ -146,14 +148,11 @@ fn previous_version_starts_earlier() {
         broken_clauses(Tables::of_rows(&[entity], &versions, &[], 0, 5).view())
     };
     assert_eq!(broken(4, 1), []);
-    assert_eq!(broken(3, 1), [Clause::PreviousHasLowerStart]);
-    assert_eq!(broken(2, 1), [Clause::PreviousHasLowerStart]);
+    assert_eq!(broken(3, 1), []);
+    assert_eq!(broken(2, 1), [Clause::PreviousStartsNoLater]);
+    assert_eq!(broken(1, 1), [Clause::PreviousStartsNoLater]);
     assert_eq!(broken(2, 0), []);
-    let itself = [
-        Clause::PreviousHasLowerNumber,
-        Clause::PreviousHasLowerStart,
-    ];
-    assert_eq!(broken(4, 2), itself);
+    assert_eq!(broken(4, 2), [Clause::PreviousHasLowerNumber]);
 }
 
 #[test]

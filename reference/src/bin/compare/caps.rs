@@ -5,9 +5,9 @@ use reference::capacity::{
     EDGE_ROW, ENTITY_ROW, MOST_ACCEPTED, MOST_EDGES, MOST_ENTITIES, MOST_VERSIONS, VERSION_ROW,
 };
 use reference::generate::{
-    all_members, count_all, declared_members, large_tables, lend_anew, long_file_event,
-    raise_accepted, set_count, signatures_of, tables_with_edges, tables_with_entities,
-    tables_with_versions,
+    all_members, count_all, declared_members, in_one_tick, large_tables, lend_anew,
+    long_file_event, raise_accepted, set_count, signatures_of, tables_with_edges,
+    tables_with_entities, tables_with_versions,
 };
 use reference::{FileBuilder, Kind, Random, TableLengths, Tables};
 
@@ -20,7 +20,8 @@ const FULL_TRACES: usize = 5;
 /// The members of a list on tables with all rows in use.
 const MEMBERS: usize = 30;
 
-/// One table at a time, one row below its cap, at it and above it.
+/// One table at a time, one row below its cap, at it and above it; also with
+/// all versions and edges of one tick.
 pub fn each_cap(comparison: &mut Comparison, random: &mut Random) -> Compared {
     let declarations = FileBuilder::new().object(4_095).object(4_096).bytes();
     for count in [4_095, 4_096, 4_097] {
@@ -31,14 +32,18 @@ pub fn each_cap(comparison: &mut Comparison, random: &mut Random) -> Compared {
     let events = events.read(1, 0, 70_002).bytes();
     let declarations = FileBuilder::new().object(3).object(4).bytes();
     for count in [65_535, 65_536, 65_537] {
-        let tables = tables_with_versions(count);
+        let mut tables = tables_with_versions(count);
         at_cap(comparison, random, &tables, &events)?;
         at_cap(comparison, random, &tables, &declarations)?;
+        in_one_tick(&mut tables);
+        at_cap(comparison, random, &tables, &events)?;
     }
     let events = FileBuilder::new().read(2, 0, 300_000).read(2, 0, 300_001);
     let events = events.write(0, 2, 300_002).bytes();
     for count in [262_143, 262_144, 262_145] {
-        let tables = tables_with_edges(count);
+        let mut tables = tables_with_edges(count);
+        at_cap(comparison, random, &tables, &events)?;
+        in_one_tick(&mut tables);
         at_cap(comparison, random, &tables, &events)?;
     }
     Ok(())
@@ -178,13 +183,13 @@ pub fn nearly_full(comparison: &mut Comparison, random: &mut Random) -> Compared
     comparison.kept_logs(&tables)
 }
 
-/// A file of events that go on from tables with objects at even and subjects
-/// at odd numbers.
+/// A file of events, two in each tick, that go on from tables with objects at
+/// even and subjects at odd numbers. The first has the last time.
 fn events_after(random: &mut Random, tables: &Tables, kinds: &[Kind], count: u32) -> Vec<u8> {
     let entities = tables.counts.entities as u16;
     let mut file = FileBuilder::new();
-    for later in 1..=count {
-        let time = tables.counts.last + later;
+    for number in 1..=count {
+        let time = tables.counts.last + number / 2;
         file = file.event(long_file_event(random, entities, kinds, time));
     }
     file.bytes()

@@ -8,15 +8,24 @@ use reference::generate::any_version;
 use reference::{Call, Declaration, Event, FileBuilder, FileVersion, Kind, Random, Record};
 use reference::{Signature, Sort, TableLengths};
 
-/// Events of a list without signatures.
-const EVENTS: u32 = 5;
-/// Events and signatures of a list with both.
-const EVENTS_AND_SIGNATURES: u32 = 4;
+/// Events of a list without signatures, at times of one choice or of each.
+const EVENTS: Lengths = Lengths { any: 5, each: 4 };
+/// Events and signatures of a list with both, likewise.
+const EVENTS_AND_SIGNATURES: Lengths = Lengths { any: 4, each: 3 };
+
+/// The records of lists with any one choice of ticks for their events, and of
+/// those with each choice.
+#[derive(Clone, Copy)]
+struct Lengths {
+    any: u32,
+    each: u32,
+}
 
 const OBJECT: Sort = Sort::Object;
 const SUBJECT: Sort = Sort::Subject;
 
-/// All lists of five events, with all traces.
+/// All lists of five events, and all of four in each choice of ticks, with all
+/// traces.
 pub fn every_event_list(comparison: &mut Comparison, random: &mut Random) -> Compared {
     for sorts in [
         [OBJECT, SUBJECT, OBJECT],
@@ -28,7 +37,8 @@ pub fn every_event_list(comparison: &mut Comparison, random: &mut Random) -> Com
     Ok(())
 }
 
-/// All lists of four events and signatures, with all traces.
+/// All lists of four events and signatures, and all of three in each choice of
+/// ticks, with all traces.
 pub fn every_signed_list(comparison: &mut Comparison, random: &mut Random) -> Compared {
     for sorts in [[OBJECT, SUBJECT, OBJECT], [OBJECT, SUBJECT, SUBJECT]] {
         let signatures = [0, 1, 2].map(|entity| Record::Signature(Signature { entity }));
@@ -38,17 +48,24 @@ pub fn every_signed_list(comparison: &mut Comparison, random: &mut Random) -> Co
     Ok(())
 }
 
-/// All lists of this many of the records, each of them as often as may be.
+/// All lists of so many of the records, each of them as often as may be.
 fn every_list(
     comparison: &mut Comparison,
     random: &mut Random,
     sorts: [Sort; 3],
     records: &[Record],
-    length: u32,
+    lengths: Lengths,
 ) -> Compared {
-    for number in 0..records.len().pow(length) {
-        let list = list_with_number(records, number, length);
+    for number in 0..records.len().pow(lengths.any) {
+        let ticks = random.below(1 << (lengths.any - 1)) as u32;
+        let list = list_with_number(records, number, lengths.any, ticks);
         compare_list(comparison, random, sorts, &list)?;
+    }
+    for number in 0..records.len().pow(lengths.each) {
+        for ticks in 0..1 << (lengths.each - 1) {
+            let list = list_with_number(records, number, lengths.each, ticks);
+            compare_list(comparison, random, sorts, &list)?;
+        }
     }
     Ok(())
 }
@@ -72,14 +89,20 @@ fn every_way(sorts: [Sort; 3]) -> Vec<Record> {
     ways
 }
 
-/// The list of records with this number, its events at times from 1.
-fn list_with_number(records: &[Record], number: usize, length: u32) -> Vec<Record> {
-    let record = |time: u32| records[number / records.len().pow(time - 1) % records.len()];
-    let at_time = |time: u32| match record(time) {
-        Record::Event(event) => Record::Event(Event { time, ..event }),
+/// The list of records with this number. Its first place has time 1; a bit of
+/// `ticks` is 1 where the next place has the same time, else its time is one
+/// more.
+fn list_with_number(records: &[Record], number: usize, length: u32, ticks: u32) -> Vec<Record> {
+    let record = |place: u32| records[number / records.len().pow(place) % records.len()];
+    let time_at = |place: u32| 1 + place - (ticks & ((1 << place) - 1)).count_ones();
+    let at_time = |place: u32| match record(place) {
+        Record::Event(event) => {
+            let time = time_at(place);
+            Record::Event(Event { time, ..event })
+        }
         other => other,
     };
-    (1..=length).map(at_time).collect()
+    (0..length).map(at_time).collect()
 }
 
 /// Takes the records in by one batch or by two.

@@ -1,50 +1,38 @@
-//! Every sound table of two entities, three versions and up to three edges
-//! with few values, signed objects and counts of 1 and 2 among them, grown or
-//! not.
+//! Every sound table of two entities, three or four versions and up to three
+//! edges with few values, grown or not: signed objects, counts of 1 and 2,
+//! equal starts and equal edge times among them.
 
 use crate::calls::small_lists;
 use crate::comparison::{Compared, Comparison};
+use crate::every_rows::{four_versions, three_versions, Rows, LAST};
 use reference::capacity::{EDGE_ROW, ENTITY_ROW, VERSION_ROW};
 use reference::generate::calls::batch_on;
-use reference::rows::{EdgeRow, EntityRow, VersionRow, NO_VERSION};
-use reference::sound::is_sound;
+use reference::rows::EdgeRow;
 use reference::{Kind, Random, Sort, Tables};
 
-const EDGES: u32 = 3;
-const LAST: u32 = 3;
-/// The sorts of the two entities. Two objects are left out, signed or not: no
-/// edge joins them.
-const SORTS: [[u32; 2]; 5] = [[1, 0], [0, 1], [1, 1], [1, 2], [2, 1]];
-
-/// The rows of the entities and of the versions.
-struct Rows {
-    entities: [EntityRow; 2],
-    versions: [VersionRow; 3],
-}
-
-impl Rows {
-    fn with_edges(&self, edges: &[EdgeRow]) -> Tables {
-        let accepted = edges.iter().map(|edge| edge.count).sum();
-        Tables::of_rows(&self.entities, &self.versions, edges, accepted, LAST)
-    }
-
-    /// The sort of the entity; a signed object is an object.
-    fn sort(&self, entity: u32) -> Sort {
-        let row = self.entities[entity as usize];
-        row.declared_sort().expect("the sorts are 0 to 2")
-    }
-}
+/// Edges with each choice of times that do not fall.
+const EDGES_AT_EACH_TIME: usize = 2;
+/// Edges with any one choice.
+const EDGES: usize = 3;
 
 /// A batch on each table; the traces, which no count changes, once for all
 /// counts.
 pub fn every_table(comparison: &mut Comparison, random: &mut Random) -> Compared {
-    for rows in every_rows() {
-        for edges in every_edge_list(&every_way(&rows)) {
+    for rows in three_versions() {
+        for edges in every_edge_list(random, &every_way(&rows), EDGES) {
             let counted = every_count(random, &edges);
             for edges in &counted {
                 compare_batch(comparison, random, rows.with_edges(edges))?;
             }
             let any = &counted[random.below(counted.len())];
+            compare_traces(comparison, &rows.with_edges(any))?;
+        }
+    }
+    for rows in four_versions() {
+        for edges in every_edge_list(random, &every_way(&rows), EDGES_AT_EACH_TIME) {
+            let counted = every_count(random, &edges);
+            let any = &counted[random.below(counted.len())];
+            compare_batch(comparison, random, rows.with_edges(any))?;
             compare_traces(comparison, &rows.with_edges(any))?;
         }
     }
@@ -74,57 +62,15 @@ fn compare_batch(comparison: &mut Comparison, random: &mut Random, mut tables: T
     Ok(())
 }
 
-/// The rows that are sound without edges.
-fn every_rows() -> Vec<Rows> {
-    let versions = every_version();
-    let mut all = Vec::new();
-    for first in &versions {
-        for second in &versions {
-            for third in &versions {
-                let versions = [*first, *second, *third];
-                all.extend(every_entities().map(|entities| Rows { entities, versions }));
-            }
-        }
-    }
-    all.retain(|rows| is_sound(rows.with_edges(&[]).view()));
-    all
-}
-
-fn every_version() -> Vec<VersionRow> {
-    let mut rows = Vec::new();
-    for entity in 0..2 {
-        for start in 0..LAST {
-            for previous in [NO_VERSION, 0, 1] {
-                rows.push(VersionRow {
-                    entity,
-                    start,
-                    end: LAST,
-                    previous,
-                });
-            }
-        }
-    }
-    rows
-}
-
-/// Both sorts and both latest versions.
-fn every_entities() -> impl Iterator<Item = [EntityRow; 2]> {
-    let row = |sort: u32, latest: u32| EntityRow { sort, latest };
-    SORTS.into_iter().flat_map(move |[first, second]| {
-        let entities = move |latest: u32| [row(first, latest / 3), row(second, latest % 3)];
-        (0..9).map(entities)
-    })
-}
-
 /// An edge, its time yet open, for each two versions that one may join.
 fn every_way(rows: &Rows) -> Vec<EdgeRow> {
     let mut ways = Vec::new();
-    for from in 0..3 {
-        for to in 0..3 {
-            let (source, target) = (rows.versions[from].entity, rows.versions[to].entity);
+    for (from, source) in (0..).zip(&rows.versions) {
+        for (to, target) in (0..).zip(&rows.versions) {
+            let (source, target) = (source.entity, target.entity);
             let sorts = [source, target].map(|entity| rows.sort(entity));
             if let (true, Some(kind)) = (source != target, kind_of(sorts)) {
-                ways.push(EdgeRow::new(from as u32, to as u32, kind, 0));
+                ways.push(EdgeRow::new(from, to, kind, 0));
             }
         }
     }
@@ -137,22 +83,57 @@ fn kind_of([source, target]: [Sort; 2]) -> Option<Kind> {
     kinds.find(|kind| kind.sorts() == (source, target))
 }
 
-/// All lists of up to three edges, at times from 1.
-fn every_edge_list(ways: &[EdgeRow]) -> Vec<Vec<EdgeRow>> {
-    let mut all = vec![Vec::new()];
-    let mut longest: Vec<Vec<EdgeRow>> = vec![Vec::new()];
-    for time in 1..=EDGES {
-        let mut longer = Vec::new();
-        for list in &longest {
-            for way in ways {
-                let edge = EdgeRow { time, ..*way };
-                longer.push([list.as_slice(), &[edge]].concat());
-            }
+/// All lists of up to so many edges: short ones at each choice of times that
+/// do not fall, longer ones at one choice.
+fn every_edge_list(random: &mut Random, ways: &[EdgeRow], most: usize) -> Vec<Vec<EdgeRow>> {
+    let mut all = Vec::new();
+    for length in 0..=most {
+        let every = every_times(length);
+        for list in every_way_list(ways, length) {
+            let any = random.below(every.len());
+            let chosen = match length <= EDGES_AT_EACH_TIME {
+                true => &every[..],
+                false => &every[any..=any],
+            };
+            all.extend(chosen.iter().map(|times| at_times(&list, times)));
         }
-        all.extend(longer.clone());
-        longest = longer;
     }
     all
+}
+
+/// All lists of so many edges, their times yet open.
+fn every_way_list(ways: &[EdgeRow], length: usize) -> Vec<Vec<EdgeRow>> {
+    let mut lists: Vec<Vec<EdgeRow>> = vec![Vec::new()];
+    for _ in 0..length {
+        let longer = |list: &Vec<EdgeRow>| {
+            let longer = ways.iter().map(|way| [list.as_slice(), &[*way]].concat());
+            longer.collect::<Vec<_>>()
+        };
+        lists = lists.iter().flat_map(longer).collect();
+    }
+    lists
+}
+
+/// All choices of so many times, from 1 to the last, that do not fall.
+fn every_times(length: usize) -> Vec<Vec<u32>> {
+    let mut lists: Vec<Vec<u32>> = vec![Vec::new()];
+    for _ in 0..length {
+        let longer = |list: &Vec<u32>| {
+            let lowest = list.last().copied().unwrap_or(1);
+            let longer = (lowest..=LAST).map(|time| [list.as_slice(), &[time]].concat());
+            longer.collect::<Vec<_>>()
+        };
+        lists = lists.iter().flat_map(longer).collect();
+    }
+    lists
+}
+
+fn at_times(edges: &[EdgeRow], times: &[u32]) -> Vec<EdgeRow> {
+    let at_time = |(edge, time): (&EdgeRow, &u32)| EdgeRow {
+        time: *time,
+        ..*edge
+    };
+    edges.iter().zip(times).map(at_time).collect()
 }
 
 /// The edges with every count of 1 and 2, each time with any last times.

@@ -4,7 +4,9 @@ use crate::comparison::{Compared, Comparison};
 use crate::round_trip::taken_in_again;
 use reference::capacity::{MOST_ACCEPTED, MOST_EDGES, MOST_ENTITIES, MOST_VERSIONS};
 use reference::file::HEADER_BYTES;
-use reference::generate::{declared_members, long_file, long_signed_file, signatures_of};
+use reference::generate::{
+    at_one_time, declared_members, long_file, long_signed_file, signatures_of,
+};
 use reference::record::RECORD_BYTES;
 use reference::{Kind, Random, TableLengths, Tables};
 
@@ -14,7 +16,7 @@ const TRACES: usize = 8;
 const MEMBERS: usize = 30;
 
 /// Files refused for want of a version row, of an edge row and of accepted
-/// events, each grown from fresh to the cap.
+/// events, each grown from fresh to the cap, the last of them in one tick.
 pub fn grown_to_caps(comparison: &mut Comparison, random: &mut Random) -> Compared {
     let entities = MOST_ENTITIES as u16;
     let file = long_file(random, entities, &Kind::ALL, 300_000);
@@ -23,7 +25,7 @@ pub fn grown_to_caps(comparison: &mut Comparison, random: &mut Random) -> Compar
     grown_to_cap(comparison, random, file, 12)?;
     let kinds = [Kind::Read, Kind::Load];
     let file = long_file(random, 40, &kinds, MOST_ACCEPTED as usize + 5);
-    grown_to_cap(comparison, random, file, 13)
+    grown_to_cap(comparison, random, at_one_time(&file, 9), 13)
 }
 
 /// Few writes, so that few versions are made.
@@ -70,13 +72,14 @@ fn some_traces(
     Ok(())
 }
 
-/// Files of some thousand records of many entities, without signatures and
-/// with, taken in by parts.
+/// Files of some thousand records of many entities, without signatures, in one
+/// tick and with signatures, taken in by parts.
 pub fn long_files(comparison: &mut Comparison, random: &mut Random) -> Compared {
     for events in [300, 3_000] {
         let entities = random.between(8, 200) as u16;
         let file = long_file(random, entities, &Kind::ALL, events);
         by_parts(comparison, random, &file)?;
+        by_parts(comparison, random, &at_one_time(&file, events as u32))?;
         let file = long_signed_file(random, entities, events);
         by_parts(comparison, random, &file)?;
     }

@@ -11,6 +11,7 @@ mod comparison;
 mod difference;
 mod every_file;
 mod every_list;
+mod every_rows;
 mod every_table;
 mod faults;
 mod lengths;
@@ -23,6 +24,7 @@ mod sections;
 mod signatures;
 mod tables;
 mod tally;
+mod ticks;
 mod tried;
 mod worked_trail;
 

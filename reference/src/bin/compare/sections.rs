@@ -2,7 +2,7 @@
 
 use crate::comparison::{Compared, Comparison};
 use crate::{caps, every_file, every_list, every_table, faults, lengths, lists, long_files};
-use crate::{members, signatures, tables, tried, worked_trail};
+use crate::{members, signatures, tables, ticks, tried, worked_trail};
 use reference::Random;
 
 /// One kind of calls, made from a seed.
@@ -12,10 +12,14 @@ pub struct Section {
 }
 
 /// Made in each round, each time from another seed.
-pub const EACH_ROUND: [Section; 12] = [
+pub const EACH_ROUND: [Section; 13] = [
     Section {
         name: "lists of calls, also by the full list",
         run: lists::lists_of_calls,
+    },
+    Section {
+        name: "events in one tick, also by the full list",
+        run: ticks::events_in_one_tick,
     },
     Section {
         name: "batches refused for each reason",

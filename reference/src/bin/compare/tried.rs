@@ -36,8 +36,8 @@ fn refused(comparison: &mut Comparison, filled: &Tables) -> Compared {
     let file = with_repeats_of_oldest(FileBuilder::new(), REPEATS);
     let last = filled.counts.last + REPEATS;
     let no_row_left = file.clone().write(1, 0, last + 1);
-    let not_later = file.read(0, 1, last).read(0, 1, last + 1);
-    for file in [no_row_left, not_later] {
+    let earlier = file.read(0, 1, last - 1).read(0, 1, last + 1);
+    for file in [no_row_left, earlier] {
         let tried = tried(comparison, &mut filled.clone(), file)?;
         assert_eq!(tried, 1 << 32, "the event refused counts none");
     }

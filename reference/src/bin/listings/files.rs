@@ -2,7 +2,7 @@
 
 use reference::file::HEADER_BYTES;
 use reference::generate::{
-    any_file, careless_file, damaged_file, long_file, long_signed_file, RecordSource,
+    any_file, at_one_time, careless_file, damaged_file, long_file, long_signed_file, RecordSource,
 };
 use reference::listing::MOST_BYTES;
 use reference::{worked_file, worked_file_from, worked_signed_file, FileBuilder, Kind, Random};
@@ -20,6 +20,7 @@ pub fn files(random: &mut Random) -> Vec<Vec<u8>> {
     files.extend(damaged_headers(&worked_file()));
     files.extend(damaged_headers(&worked_signed_file().bytes()));
     files.extend(signed_files());
+    files.extend(tied_files());
     files.extend(any_files(random));
     files.extend(longest_files(random));
     files.extend(files_too_long(random));
@@ -61,6 +62,20 @@ fn signed_files() -> Vec<Vec<u8>> {
         signed.raw(&[6, 0, 3, 0, 0, 0, 0, 0, 1, 0, 0, 0]),
     ];
     files.map(FileBuilder::bytes).to_vec()
+}
+
+/// The worked trail in one tick, and after its last event others at that time,
+/// before it and at time 0.
+fn tied_files() -> Vec<Vec<u8>> {
+    let mut files = [1, 7, u32::MAX]
+        .map(|time| at_one_time(&worked_file(), time))
+        .to_vec();
+    files.push(at_one_time(&worked_file(), 0));
+    for time in [0, 6, 7] {
+        let again = FileBuilder::new().read(3, 1, time).write(1, 2, time);
+        files.push([worked_file(), again.bytes()[HEADER_BYTES..].to_vec()].concat());
+    }
+    files
 }
 
 /// Good, careless, damaged and cut files.
