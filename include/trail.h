@@ -33,8 +33,10 @@ extern "C" {
  * A signed object counts as an object, but no event goes into it any more. Events out of it go on, and traces are as without the
  * signature.
  *
- * A table's capacity is its whole rows, at most SLT_MOST_.. of them; numbers past that are neither read nor written. Time is
- * in hundredths of a second since the trail began.
+ * A table's capacity is its whole rows, at most SLT_MOST_.. of them; numbers past that are neither read nor written.
+ *
+ * Time is in hundredths of a second since the trail began, and at least 1. Events may have equal times: among these the order in
+ * which they are taken in decides, so an event never follows, on a causal path, one that was taken in after it.
  */
 #define SLT_ENTITY_WIDTH 2
 #define SLT_VERSION_WIDTH 4
@@ -107,7 +109,7 @@ enum slt_refusal {
     SLT_NOT_NEXT = 6,          /* the declared number is not the next */
     SLT_SOURCE_IS_TARGET = 7,  /* source equals target */
     SLT_WRONG_SORT = 8,        /* source or target of a sort that the kind does not allow; a signature of a subject */
-    SLT_NOT_LATER = 9,         /* time not above the last accepted time */
+    SLT_TOO_EARLY = 9,         /* time 0, or earlier than the last accepted time */
     /* because of the state */
     SLT_ENTITIES_FULL = 10,    /* no entity row left */
     SLT_VERSIONS_FULL = 11,    /* no version row left where one is to be made */
@@ -175,7 +177,8 @@ slt_batch_answer slt_batch(
 
 /*
  * The backward trace of an entity at a time. In a trail that batches grew from a fresh one, the marked entities are those with a
- * causal path to it by then, itself among them.
+ * causal path to it by then, itself among them: a chain of accepted events up to that time, that time included, each accepted after
+ * the one before and starting where it ended.
  *
  * Refused with 16, 5, 14; then the count is 0 and nothing is written. Not refused, `work` gets 1 or 0 for each version, marked
  * or not, and `marks` 1 for each entity with a marked version, else 0. The count is the number of ones in `marks`. Bytes past the
@@ -196,7 +199,8 @@ slt_backward_answer slt_backward(
  * the members alone marks it. A member's intake is the greatest time, at or before the given one, of an edge that enters its start
  * version, else that version's start; the intake given is the earliest of the members', 0 for an empty list. In a trail that
  * batches grew from a fresh one, a member's intake is the time of the last kept event into it at or before the given time, 0 if
- * there is none, and it marks the entities with a causal path from it through events accepted after that one, itself among them.
+ * there is none, and it marks the entities with a causal path from it through events accepted after that one, itself among them;
+ * so never less than what it reached by events later than the given time.
  *
  * Refused with 16, 5, 14: with 5 if any member is not declared; an empty list with 16 and 14 as any other. Buffers as for
  * slt_backward; refused, the intake is 0 too.

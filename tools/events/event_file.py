@@ -31,11 +31,11 @@ class EventFile:
         return number
 
     def add(self, kind, source, target, time):
-        """Adds an event at this time, or one above the last time if that is
-        later. Gives False, and adds nothing, after 1,000,000 events."""
+        """Adds an event at this time, or at the last time if that is later; at
+        1 if both are 0. Gives False, and adds nothing, after 1,000,000 events."""
         if self.events == MOST_EVENTS:
             return False
-        self.last = max(self.last + 1, time)
+        self.last = max(self.last, time, 1)
         self.content += RECORD.pack(kind, 0, source, target, 0, self.last)
         self.events += 1
         return True
