@@ -51,7 +51,7 @@ static void take_in(const char *what, const uint8_t *file, size_t length, uint32
 /* Whether the study and the montage stand behind the report at a time. */
 static void behind_the_report(uint32_t time, uint8_t study, uint8_t montage)
 {
-    uint8_t work[ROWS], marks[ENTITIES];
+    uint8_t work[ROWS] = { 0 }, marks[ENTITIES] = { 0 };
     slt_backward_answer answer = slt_backward(counts, TABLES, REPORT, time, work, sizeof work, marks, sizeof marks);
     printf("report at %u refusal %u study %u montage %u\n", time, answer.refusal, marks[STUDY], marks[MONTAGE]);
     wrong |= answer.refusal != SLT_NOT_REFUSED || marks[STUDY] != study || marks[MONTAGE] != montage;

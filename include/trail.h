@@ -35,8 +35,8 @@ extern "C" {
  *
  * A table's capacity is its whole rows, at most SLT_MOST_.. of them; numbers past that are neither read nor written.
  *
- * Time is in hundredths of a second since the trail began, and at least 1. Events may have equal times: among these the order in
- * which they are taken in decides, so an event never follows, on a causal path, one that was taken in after it.
+ * Time is in hundredths of a second since the trail began; that of an event is at least 1. Events may have equal times: among these
+ * the order in which they are taken in decides, so an event never follows, on a causal path, one that was taken in after it.
  */
 #define SLT_ENTITY_WIDTH 2
 #define SLT_VERSION_WIDTH 4

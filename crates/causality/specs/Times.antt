@@ -41,7 +41,7 @@ RisingFrom es t x y = (p : RisingPath es x y) × All (λ e. t ≤ e .time) (p .p
 
 -- Document 01's words, of the accepted events hs
 pub record ByTimes (hs : List Item) : Type 0 where
-  -- a causal path of all that were accepted up to some event, and with them ancestors and who gains one
+  -- causal paths of the events accepted up to some event, and so ancestors and who gains one
   pub paths : (later earlier : List Item) → hs ≡ later ++ earlier → (x y : ℕ) → CausalPath (accepted earlier) x y ↔ RisingPath (accepted earlier) x y
   pub by : (t x y : ℕ) → PathBy (accepted hs) t x y ↔ RisingBy (accepted hs) t x y
   -- "a causal path .. through events accepted after the intake alone"

@@ -69,7 +69,7 @@ pub record OrderOfRefusals : Type 0 where
   pub r8-9 : Refuses (used 1) full (event 1 1 0 4) WrongSort 0
   pub r8-target : Refuses (used 1) full (event 4 1 0 4) WrongSort 0
   pub r9-13 : Refuses (used mostAccepted) (fullOf mostAccepted) (event 2 1 0 4) TooEarly 0
-  -- a time equal to the last is past 9
+  -- a time equal to the last does not give 9: the next check follows
   pub r13-tie : Refuses (used mostAccepted) (fullOf mostAccepted) (event 2 1 0 5) AcceptedFull 0
   pub r12-tie : Refuses (used 1) full (event 2 1 0 5) EdgesFull 0
   pub r13-12 : Refuses (used mostAccepted) (fullOf mostAccepted) (event 2 1 0 6) AcceptedFull 0

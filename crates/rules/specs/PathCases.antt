@@ -26,7 +26,8 @@ pub record PathCases : Type 0 where
   pub in-order : (s t : ℕ) → CausalPath (readThenWrite s t) 0 2
   -- "an event never follows one accepted after it"
   pub turned : (s t : ℕ) → CausalPath (writeThenRead s t) 0 2 → ⊥
-  -- an event accepted twice stands at two positions, and each counts for itself: 1 writes 2, 3 reads 2, 1 reads 0 and writes 2 again
+  -- an event accepted twice stands at two positions, and each counts for itself: 1 writes 2, reads 0 and writes 2 again; in the second row 3
+  -- reads 2 after the first write
   pub twice : (t : ℕ) → CausalPath (write 1 2 t ∷ read 0 1 t ∷ write 1 2 t ∷ []) 0 2
   pub by-position : (t : ℕ) → CausalPath (write 1 2 t ∷ read 0 1 t ∷ read 2 3 t ∷ write 1 2 t ∷ []) 0 3 → ⊥
   -- an event leads from its source to its target, and not back

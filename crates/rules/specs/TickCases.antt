@@ -81,7 +81,7 @@ pub record TickCases : Type 0 where
   pub next-first : map (λ t. nextAnswer declarations (event 1 0 1 t)) (0 ∷ 1 ∷ []) ≡ answer 9 0 0 ∷ answer 0 1 0 ∷ []
   pub again-counted : readAgain 5
       ≡ record { answer = answer 0 1 1; counts = counts 2 2 1 2 5; tables = tables (full .entities) (full .versions) (0 ∷ 1 ∷ 1 ∷ 5 ∷ 2 ∷ 5 ∷ []) }
-  -- in the same file: a pair, and then an earlier one, or one at 0
+  -- in the same file: a pair; after it one at 0, in the tick and later; after an event at 2 an earlier one too
   pub pair : takenIn readWrite
       ≡ record {
         answer = answer 0 6 1;
@@ -161,7 +161,7 @@ pub record TickCases : Type 0 where
   pub repeat-edges : takenIn readRepeat .tables .edges ≡ 0 ∷ 1 ∷ 1 ∷ 1 ∷ 2 ∷ 1 ∷ 1 ∷ 2 ∷ 2 ∷ 1 ∷ 1 ∷ 1 ∷ replicate 36 7
   pub repeat-since : sourcesOf (since 1 1 (itemsOf (plainOf readRepeat))) ≡ 0 ∷ 1 ∷ []
   pub repeat-log : keptLogOf (takenIn readRepeat .counts) (takenIn readRepeat .tables) (replicate 80 9) ≡ logOf (header ++ readWrite) 80
-  -- the same write before and after the read: which one counts
+  -- the same write before and after the read: by the second one the study stands behind the report
   pub twice-backward : map (λ t. backwardAt (takenIn (writeRead ++ event 2 1 2 1)) 2 t .marks) (0 ∷ 1 ∷ []) ≡ (0 ∷ 0 ∷ 1 ∷ 0 ∷ []) ∷ (1 ∷ 1 ∷ 1 ∷ 0 ∷ []) ∷ []
   -- two reads into one version
   pub two-reads : map (λ t. backwardAt (takenIn (declarations ++ (event 1 0 1 1 ++ event 1 3 1 1))) 1 t .marks) (0 ∷ 1 ∷ []) ≡ (0 ∷ 1 ∷ 0 ∷ 0 ∷ []) ∷ (1 ∷ 1 ∷ 0 ∷ 1 ∷ []) ∷ []

@@ -46,7 +46,7 @@ pub record VersionsReady (c : Counts) (entities versions owners : List ℕ) : Ty
 unfoldable pub sortsFit : ℕ → ℕ → ℕ → Bool
 sortsFit kind s t = every (leb 1 kind ∷ sourceFits kind s ∷ targetFits kind t ∷ [])
 
--- an edge of row e, whose time is to be at least b, from an entity of code x to one of code y; its last time is up to last, and so its time is too
+-- an edge of row e, whose time may not be below b, from an entity of code x to one of code y; its last time is up to last, and so its time is too
 unfoldable pub soundCodes : ℕ → ℕ → EdgeRow → ℕ → ℕ → Bool
 soundCodes last b e x y =
     every

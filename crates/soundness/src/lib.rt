@@ -111,7 +111,7 @@ fn sorts_fit(kind: u32, a: u16, b: u16) -> bool
     (FITS >> place) % 2 == 1
 }
 
-// An edge of row e, whose time is to be at least least, from an entity of code a to one of code b. Edges of all kinds are mixed,
+// An edge of row e, whose time may not be below least, from an entity of code a to one of code b. Edges of all kinds are mixed,
 // so it does not branch on which kind or sort it has.
 fn codes_ok(last: u32, least: u32, e: EdgeRow, a: u16, b: u16) -> bool
     requires { ⌜ e .kind ≤ mostKind ⌝ }
@@ -125,7 +125,7 @@ fn codes_ok(last: u32, least: u32, e: EdgeRow, a: u16, b: u16) -> bool
         & (e.last <= last)
 }
 
-// An edge of row e, whose time is to be at least least; owners has the code of each version's entity.
+// An edge of row e, whose time may not be below least; owners has the code of each version's entity.
 fn edge_ok(c: Counts, owners: &[u16], least: u32, e: EdgeRow) -> bool
     requires { ⌜ c .versions ≤ length (now owners) ⌝ }
     ensures { λ z. ⌜ z ≡ codedEdge c (now (owners .entry)) least e ⌝ }
