@@ -48,7 +48,7 @@ typedef struct trail {
 static trail worked, regrown;
 static uint8_t work[ROWS];
 static uint8_t marks[ROWS];
-static uint8_t log_bytes[SLT_HEADER_LENGTH + SLT_RECORD_LENGTH * 3 * ROWS];
+static uint8_t log_bytes[SLT_LOG_LENGTH(ROWS, ROWS, ROWS)];
 
 #define LENGTH(array) (sizeof(array) / sizeof((array)[0]))
 #define TABLES(t) (t).entities, LENGTH((t).entities), (t).versions, LENGTH((t).versions), (t).edges, LENGTH((t).edges)
@@ -64,9 +64,17 @@ static void expect(const char *what, int holds)
     }
 }
 
+static void print_reason(uint32_t refusal)
+{
+    if (refusal != SLT_NOT_REFUSED) {
+        printf("refused: %s\n", slt_refusal_text[refusal]);
+    }
+}
+
 static void print_batch(const char *what, slt_batch_answer answer)
 {
     printf("%s refusal %u taken %u tried %" PRIu64 "\n", what, answer.refusal, answer.taken, answer.tried);
+    print_reason(answer.refusal);
 }
 
 static void print_marks(void)
@@ -164,6 +172,7 @@ static void refused_forward(void)
     slt_forward_answer answer =
         slt_forward(worked.counts, TABLES(worked), members, LENGTH(members), 6, work, LENGTH(work), marks, LENGTH(marks));
     printf("forward 3 1 4 at 6 refusal %u count %u intake %u\n", answer.refusal, answer.count, answer.intake);
+    print_reason(answer.refusal);
     expect("4 is not declared", answer.refusal == SLT_UNDECLARED && answer.count == 0 && answer.intake == 0);
     expect("no mark is written", marks_are(0xA5, 0xA5, 0xA5, 0xA5));
 }
@@ -212,10 +221,11 @@ static void sign_report(void)
 /* A refused call writes nothing. */
 static void refused_log(void)
 {
-    uint8_t out[103];
+    uint8_t out[SLT_LOG_LENGTH(4, 4, 0) - 1];
     memset(out, 0xA5, sizeof out);
     slt_log_answer answer = slt_kept_log(worked.counts, TABLES(worked), out, sizeof out);
     printf("kept log in 103 bytes refusal %u length %u\n", answer.refusal, answer.length);
+    print_reason(answer.refusal);
     expect("103 bytes are too few", answer.refusal == SLT_OUTPUT_SHORT && answer.length == 0);
     for (size_t i = 0; i < sizeof out; i++) {
         expect("nothing is written", out[i] == 0xA5);
@@ -246,6 +256,7 @@ static void nothing_lent(void)
 
 int main(void)
 {
+    expect("a text for each refusal", LENGTH(slt_refusal_text) == SLT_SIGNED + 1);
     take_in();
     trace_backward(2, 4);
     trace_forwards();

@@ -13,7 +13,7 @@
 #include "trail.h"
 
 #define SUBJECTS (SLT_MOST_ENTITIES - 1)
-#define FILE_LENGTH (SLT_HEADER_LENGTH + SLT_RECORD_LENGTH * (SLT_MOST_ENTITIES + SLT_MOST_EDGES + 1))
+#define FILE_LENGTH SLT_LOG_LENGTH(SLT_MOST_ENTITIES, SLT_MOST_EDGES, 1)
 
 static uint8_t file[FILE_LENGTH] = { 0x53, 0x4C, 0x54, 2 };
 static uint8_t log_bytes[FILE_LENGTH];

@@ -20,6 +20,9 @@
 extern "C" {
 #endif
 
+/* The version of the library. That of an event file is another number, which stands in its header. */
+#define SLT_VERSION "0.1.0"
+
 /*
  * The tables hold rows of 32-bit numbers, one row after the other, numbered from 0:
  *
@@ -97,29 +100,54 @@ typedef struct slt_counts {
     uint32_t last;
 } slt_counts;
 
-/* Why a call refused: the first of its conditions, in the order given with each call, that holds. */
+/*
+ * Why a call refused: the first of its conditions, in the order given with each call, that holds. slt_refusal_text has them in
+ * words; here stands what it leaves out.
+ */
 enum slt_refusal {
     SLT_NOT_REFUSED = 0,
     /* because of the input */
     SLT_NOT_EVENT_FILE = 1,    /* under 8 bytes, or the mark "SLT" or the three zero bytes of the header differ */
-    SLT_WRONG_VERSION = 2,     /* the header's version is neither 1 nor 2 */
+    SLT_WRONG_VERSION = 2,
     SLT_CUT_SHORT = 3,         /* 1 to 11 bytes remain */
     SLT_BAD_FIELD = 4,         /* kind above 5 (in version 2 files above 6), declared sort above 1, or a zero field that is not 0 */
-    SLT_UNDECLARED = 5,        /* an entity is not declared */
-    SLT_NOT_NEXT = 6,          /* the declared number is not the next */
-    SLT_SOURCE_IS_TARGET = 7,  /* source equals target */
-    SLT_WRONG_SORT = 8,        /* source or target of a sort that the kind does not allow; a signature of a subject */
-    SLT_TOO_EARLY = 9,         /* time 0, or earlier than the last accepted time */
+    SLT_UNDECLARED = 5,
+    SLT_NOT_NEXT = 6,
+    SLT_SOURCE_IS_TARGET = 7,
+    SLT_WRONG_SORT = 8,
+    SLT_TOO_EARLY = 9,
     /* because of the state */
-    SLT_ENTITIES_FULL = 10,    /* no entity row left */
-    SLT_VERSIONS_FULL = 11,    /* no version row left where one is to be made */
-    SLT_EDGES_FULL = 12,       /* no edge row left where one is to be kept */
-    SLT_ACCEPTED_FULL = 13,    /* SLT_MOST_ACCEPTED events are accepted */
-    SLT_BUFFER_SHORT = 14,     /* work buffer shorter than the versions, or mark buffer than the entities */
-    SLT_OUTPUT_SHORT = 15,     /* output shorter than the kept log */
-    SLT_UNSOUND = 16,          /* the counts and tables are not sound: crates/rules/specs/Sound.antt */
+    SLT_ENTITIES_FULL = 10,
+    SLT_VERSIONS_FULL = 11,    /* where one is to be made */
+    SLT_EDGES_FULL = 12,       /* where one is to be kept */
+    SLT_ACCEPTED_FULL = 13,    /* SLT_MOST_ACCEPTED of them */
+    SLT_BUFFER_SHORT = 14,
+    SLT_OUTPUT_SHORT = 15,
+    SLT_UNSOUND = 16,          /* crates/rules/specs/Sound.antt */
     /* because of a signature */
-    SLT_SIGNED = 17            /* an event into a signed object, or a second signature of it */
+    SLT_SIGNED = 17
+};
+
+/* The reasons in words, each at its number. */
+static const char *const slt_refusal_text[] = {
+    "not refused",
+    "not an event file",
+    "an event file of a version that is neither 1 nor 2",
+    "the file ends inside a record",
+    "a field of the record has a value that it may not have",
+    "an entity is not declared",
+    "the declared number is not the next",
+    "source equals target",
+    "source or target of a sort that the kind does not allow, or a signature of a subject",
+    "time 0, or earlier than the last accepted time",
+    "no entity row left",
+    "no version row left",
+    "no edge row left",
+    "as many events are accepted as there may be",
+    "the work buffer is shorter than the versions, or the mark buffer than the entities",
+    "the output is shorter than the kept log",
+    "the counts and tables are not sound",
+    "an event into a signed object, or a second signature of it"
 };
 
 /* `refusal` is one of slt_refusal in each answer. */
@@ -216,11 +244,18 @@ slt_forward_answer slt_forward(
     uint8_t *marks, size_t marks_length);
 
 /*
+ * The length of a kept log, a size_t, by the entities and edges in use and the signed objects among these entities. With the
+ * entities given for the signed objects too, it is always enough.
+ */
+#define SLT_LOG_LENGTH(entities, edges, signed_objects) \
+    (SLT_HEADER_LENGTH + SLT_RECORD_LENGTH * ((size_t)(entities) + (size_t)(edges) + (size_t)(signed_objects)))
+
+/*
  * Writes the kept log to the start of `out`: an event file with the header, all declarations by number, all edges in order as
  * events, then the signatures of all signed objects by number. A signed object is declared as any other, with sort 0. The file is
- * of version 2 if there is a signature, else of version 1. It has SLT_HEADER_LENGTH + SLT_RECORD_LENGTH * (entities + edges +
- * signed objects) bytes, which is the length returned. Counts and last times are not in it: a fresh trail that takes in the log of a
- * trail that batches grew from a fresh one has the same signed objects, and edges that each stand for their own event alone.
+ * of version 2 if there is a signature, else of version 1. SLT_LOG_LENGTH says how many bytes it has, which is the length returned.
+ * Counts and last times are not in it: a fresh trail that takes in the log of a trail that batches grew from a fresh one has the
+ * same signed objects, and edges that each stand for their own event alone.
  *
  * Refused with 16, 15; then the length is 0 and nothing is written. Bytes after the log are left alone.
  */

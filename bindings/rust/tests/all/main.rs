@@ -1,0 +1,15 @@
+//! The tests, one module for each idea.
+
+mod common;
+
+mod clones;
+mod event_files;
+mod from_rows;
+mod full_trail;
+mod grown_trails;
+mod header;
+mod records;
+mod refused_batches;
+mod signatures;
+mod threads;
+mod worked_trail;
