@@ -1,0 +1,4 @@
+pub mod Search
+pub mod Links
+pub mod Filter
+pub mod Places

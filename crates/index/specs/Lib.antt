@@ -1,0 +1,4 @@
+pub mod Index
+pub mod Ways
+pub mod Hints
+pub mod Arrays
