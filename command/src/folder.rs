@@ -4,8 +4,9 @@ use crate::failure::{Exit, Failure};
 use crate::path::{folder_of, shown};
 use crate::state::{State, Unreadable};
 use std::fs::{self, File, TryLockError};
-use std::io::{self, ErrorKind, Write};
+use std::io::{self, ErrorKind};
 use std::path::{Path, PathBuf};
+use std::thread;
 
 const STATE: &str = "state";
 /// The state while it is written.
@@ -14,9 +15,13 @@ const LOCK: &str = "lock";
 
 /// Reads the state of the trail in a folder.
 pub fn read(dir: &Path) -> Result<State, Failure> {
-    let opened = File::open(dir.join(STATE)).and_then(|file| Ok((file.metadata()?.len(), file)));
-    let (length, file) = opened.map_err(|error| no_state(dir, error))?;
-    State::read(file, length).map_err(|error| unreadable(dir, error))
+    ask(dir, Ok)
+}
+
+/// What is answered from the state of the trail in a folder.
+pub fn ask<A>(dir: &Path, answer: impl FnOnce(State) -> Result<A, Failure>) -> Result<A, Failure> {
+    let file = File::open(dir.join(STATE)).map_err(|error| no_state(dir, error))?;
+    State::in_file(file, answer).map_err(|error| unreadable(dir, error))?
 }
 
 /// The one who may write the trail in a folder, until it is dropped.
@@ -27,13 +32,11 @@ pub struct Writer {
 }
 
 impl Writer {
-    /// Locks the trail in a folder and reads its state.
-    pub fn open(dir: &Path) -> Result<(Writer, State), Failure> {
+    /// Locks the trail in a folder.
+    pub fn open(dir: &Path) -> Result<Writer, Failure> {
         // Before anything is made: a folder without a trail gets no lock.
         fs::metadata(dir.join(STATE)).map_err(|error| no_state(dir, error))?;
-        let writer = Writer::lock(dir)?;
-        let state = read(dir)?;
-        Ok((writer, state))
+        Writer::lock(dir)
     }
 
     /// Makes a folder, with those above it, for a trail that it does not hold yet, and locks it.
@@ -84,25 +87,13 @@ impl Writer {
     /// one is whole, the one before stays.
     pub fn commit(&self, state: &State) -> Result<(), Failure> {
         let new = self.dir.join(NEW);
-        let bytes = state.encode();
-        if let Err(error) = State::decode(&bytes) {
-            let message =
-                format!("the new state cannot be read back, the trail stays as it was: {error}");
-            let exit = match error {
-                Unreadable::Thread(_) => Exit::InputOutput,
-                _ => Exit::Damaged,
-            };
-            return Err(Failure::new(exit, message));
-        }
-        let put = self
-            .write_new(&new, &bytes)
-            .and_then(|()| fs::rename(&new, self.dir.join(STATE)));
-        if let Err(error) = put {
+        let put = self.write_new(&new, state).and_then(|()| {
+            fs::rename(&new, self.dir.join(STATE)).map_err(|error| not_written(&new, error))
+        });
+        if put.is_err() {
             let _ = fs::remove_file(&new);
-            let doing = format!("cannot write {}, the trail stays as it was", shown(&new));
-            return Err(Failure::io(doing, error));
         }
-        self.sync()
+        put.and_then(|()| self.sync())
     }
 
     /// Puts on disk that the state is in its place.
@@ -113,18 +104,38 @@ impl Writer {
         })
     }
 
-    fn write_new(&self, new: &Path, bytes: &[u8]) -> io::Result<()> {
+    /// Writes a state, and reads it back while it is put on disk.
+    fn write_new(&self, new: &Path, state: &State) -> Result<(), Failure> {
+        let written = self
+            .create(new, state)
+            .map_err(|error| not_written(new, error))?;
+        thread::scope(|scope| {
+            let read_back = || State::in_file(File::open(new).map_err(Unreadable::Read)?, |_| ());
+            let read_back = thread::Builder::new()
+                .spawn_scoped(scope, read_back)
+                .map_err(|error| not_written(new, error))?;
+            written
+                .sync_all()
+                .map_err(|error| not_written(new, error))?;
+            let read_back = read_back.join().expect("reading does not panic");
+            read_back.map_err(not_read_back)
+        })
+    }
+
+    /// Writes a state to a new file. What is returned is not open for writing: the file can be held while it is synced.
+    fn create(&self, new: &Path, state: &State) -> io::Result<File> {
         // One that was left half written may not be writable.
         match fs::remove_file(new) {
             Err(error) if error.kind() == ErrorKind::NotFound => {}
             removed => removed?,
         }
-        let mut file = File::create_new(new)?;
+        let file = File::create_new(new)?;
+        let written = File::open(new)?;
         if let Ok(before) = fs::metadata(self.dir.join(STATE)) {
             file.set_permissions(before.permissions())?;
         }
-        file.write_all(bytes)?;
-        file.sync_all()
+        state.write(file)?;
+        Ok(written)
     }
 }
 
@@ -144,6 +155,20 @@ fn make_folder(dir: &Path) -> io::Result<()> {
 
 pub fn sync_folder(dir: &Path) -> io::Result<()> {
     File::open(dir)?.sync_all()
+}
+
+fn not_written(new: &Path, error: io::Error) -> Failure {
+    let doing = format!("cannot write {}, the trail stays as it was", shown(new));
+    Failure::io(doing, error)
+}
+
+fn not_read_back(error: Unreadable) -> Failure {
+    let message = format!("the new state cannot be read back, the trail stays as it was: {error}");
+    let exit = match error {
+        Unreadable::Read(_) | Unreadable::Thread(_) => Exit::InputOutput,
+        _ => Exit::Damaged,
+    };
+    Failure::new(exit, message)
 }
 
 fn no_state(dir: &Path, error: io::Error) -> Failure {

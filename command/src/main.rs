@@ -71,13 +71,13 @@ fn run(cli: &Cli) -> Result<Report, Failure> {
         Command::Init { start } => init::run(dir, start.as_deref()),
         Command::Take { files, remove } => take::run(dir, files, *remove),
         Command::Back { name, at, choice } => {
-            back::run(&folder::read(dir)?, name, at, choice, json)
+            folder::ask(dir, |state| back::run(&state, name, at, choice, json))
         }
         Command::Forward { names, at, choice } => {
-            forward::run(&folder::read(dir)?, names, at, choice, json)
+            folder::ask(dir, |state| forward::run(&state, names, at, choice, json))
         }
-        Command::List { choice } => Ok(list::run(&folder::read(dir)?, choice, json)),
-        Command::Stats { paper } => Ok(stats::run(&folder::read(dir)?, *paper)),
+        Command::List { choice } => folder::ask(dir, |state| Ok(list::run(&state, choice, json))),
+        Command::Stats { paper } => folder::ask(dir, |state| Ok(stats::run(&state, *paper))),
         Command::Sign { names } => sign::run(dir, names),
         Command::Log { out } => log::run(dir, out),
         Command::Check { deep } => check::run(dir, *deep),

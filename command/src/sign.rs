@@ -2,7 +2,7 @@
 
 use crate::failure::{Exit, Failure};
 use crate::find;
-use crate::folder::Writer;
+use crate::folder::{self, Writer};
 use crate::report::Report;
 use crate::show;
 use crate::state::State;
@@ -12,7 +12,8 @@ use std::path::Path;
 use trail::{EntityNo, EventFile, Refusal, RefusedBatch};
 
 pub fn run(dir: &Path, names: &[OsString]) -> Result<Report, Failure> {
-    let (writer, mut state) = Writer::open(dir)?;
+    let writer = Writer::open(dir)?;
+    let mut state = folder::read(dir)?;
     let last = state.trail.counts().last;
     let find = |name: &OsString| find::entity(&state, name, last);
     let entities = names.iter().map(find).collect::<Result<Vec<_>, _>>()?;

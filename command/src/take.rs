@@ -4,7 +4,7 @@ mod outcome;
 mod remove;
 
 use crate::failure::Failure;
-use crate::folder::Writer;
+use crate::folder::{self, Writer};
 use crate::grow::grow;
 use crate::progress;
 use crate::recording::Recording;
@@ -16,15 +16,8 @@ use std::path::{Path, PathBuf};
 use trail::Trail;
 
 pub fn run(dir: &Path, files: &[PathBuf], remove: bool) -> Result<Report, Failure> {
-    let (writer, state) = Writer::open(dir)?;
-    let fresh = Trail::new().map_err(|error| Failure::io("cannot start a thread", error))?;
-    let mut taking = Taking {
-        state,
-        files,
-        outcomes: Vec::new(),
-        failure: None,
-    };
-    taking.take_all(&fresh);
+    let writer = Writer::open(dir)?;
+    let mut taking = folder::ask(dir, |state| Taking::all(state, files))?;
     let is_new = |outcome: &Outcome| matches!(outcome, Outcome::Taken(..));
     if taking.outcomes.iter().any(is_new) {
         writer.commit(&taking.state)?;
@@ -49,20 +42,28 @@ struct Taking<'a> {
 }
 
 impl Taking<'_> {
-    fn take_all(&mut self, fresh: &Trail) {
-        let bar = progress::bar(self.files.len(), "files");
-        for file in self.files {
-            match self.take(fresh, file) {
-                Ok(outcome) => self.outcomes.push(outcome),
+    fn all(state: State, files: &[PathBuf]) -> Result<Taking<'_>, Failure> {
+        let fresh = Trail::new().map_err(|error| Failure::io("cannot start a thread", error))?;
+        let mut taking = Taking {
+            state,
+            files,
+            outcomes: Vec::new(),
+            failure: None,
+        };
+        let bar = progress::bar(files.len(), "files");
+        for file in files {
+            match taking.take(&fresh, file) {
+                Ok(outcome) => taking.outcomes.push(outcome),
                 Err(failure) => {
-                    self.outcomes.push(Outcome::failed(&failure));
-                    self.failure = Some(self.with_others(failure));
+                    taking.outcomes.push(Outcome::failed(&failure));
+                    taking.failure = Some(taking.with_others(failure));
                     break;
                 }
             }
             bar.inc(1);
         }
         bar.finish_and_clear();
+        Ok(taking)
     }
 
     fn take(&mut self, fresh: &Trail, file: &Path) -> Result<Outcome, Failure> {

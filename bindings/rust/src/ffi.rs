@@ -1,7 +1,12 @@
-//! The calls of the archive, with slices in place of pointers and lengths. The only module with `unsafe`.
+//! The calls of the archive, with slices in place of pointers and lengths, and numbers where they stand in bytes. With `mapping`,
+//! which it holds, the only module with `unsafe`.
 //!
 //! What the header asks holds for every call: a slice is valid, aligned and has values throughout; `&mut` slices overlap nothing;
 //! the library returns, keeps no pointer and does not unwind; and [`OnWorker`] says that the thread has the stack.
+
+mod mapping;
+
+pub use mapping::Mapping;
 
 use crate::tables::Tables;
 use crate::worker::OnWorker;
@@ -92,17 +97,30 @@ extern "C" {
     ) -> LogAnswer;
 }
 
-pub fn batch(_: &OnWorker, counts: &mut Counts, tables: &mut Tables, file: &[u8]) -> BatchAnswer {
+/// The numbers of four bytes each, the lowest byte first, that stand in these bytes; not if the machine has them otherwise.
+pub fn numbers_in(bytes: &[u8]) -> Option<&[u32]> {
+    // SAFETY: any four bytes are a number.
+    let (before, numbers, after) = unsafe { bytes.align_to() };
+    let fit = before.is_empty() && after.is_empty() && cfg!(target_endian = "little");
+    fit.then_some(numbers)
+}
+
+pub fn batch(
+    _: &OnWorker,
+    counts: &mut Counts,
+    [entities, versions, edges]: [&mut [u32]; 3],
+    file: &[u8],
+) -> BatchAnswer {
     // SAFETY: the counts and the tables are `&mut` and distinct, the file is read only; see the module.
     unsafe {
         slt_batch(
             counts,
-            tables.entities.as_mut_ptr(),
-            tables.entities.len(),
-            tables.versions.as_mut_ptr(),
-            tables.versions.len(),
-            tables.edges.as_mut_ptr(),
-            tables.edges.len(),
+            entities.as_mut_ptr(),
+            entities.len(),
+            versions.as_mut_ptr(),
+            versions.len(),
+            edges.as_mut_ptr(),
+            edges.len(),
             file.as_ptr(),
             file.len(),
         )

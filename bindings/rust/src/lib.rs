@@ -40,6 +40,7 @@ mod event_file;
 #[allow(unsafe_code)]
 mod ffi;
 mod from_rows_error;
+mod held_file;
 mod limits;
 mod numbers;
 mod record;
@@ -53,6 +54,7 @@ mod worker;
 pub use batch::{RefusedBatch, Taken};
 pub use event_file::EventFile;
 pub use from_rows_error::FromRowsError;
+pub use held_file::HeldFile;
 pub use limits::{
     BATCH_STACK, EDGE_WIDTH, ENTITY_WIDTH, HEADER_LENGTH, MOST_ACCEPTED, MOST_EDGES, MOST_ENTITIES,
     MOST_VERSIONS, NONE, RECORD_LENGTH, VERSION_WIDTH,

@@ -1,11 +1,12 @@
 //! The trail: its counts and tables, and the calls on them.
 
 use crate::rows::{all_rows, row};
-use crate::tables::Tables;
+use crate::tables::{Numbers, Tables};
 use crate::worker::{OnWorker, Worker};
 use crate::{
-    ffi, Counts, EdgeNo, EdgeRow, EntityNo, EntityRow, ForwardTrace, FromRowsError, Refusal,
-    RefusedBatch, Sort, Taken, Time, Trace, VersionNo, VersionRow, HEADER_LENGTH, RECORD_LENGTH,
+    ffi, Counts, EdgeNo, EdgeRow, EntityNo, EntityRow, ForwardTrace, FromRowsError, HeldFile,
+    Refusal, RefusedBatch, Sort, Taken, Time, Trace, VersionNo, VersionRow, HEADER_LENGTH,
+    RECORD_LENGTH,
 };
 use std::fmt;
 use std::io;
@@ -48,12 +49,31 @@ impl Trail {
         versions: impl Into<Vec<u32>>,
         edges: impl Into<Vec<u32>>,
     ) -> Result<Trail, FromRowsError> {
-        let worker = Worker::start().map_err(FromRowsError::Thread)?;
-        let mut lent = Tables {
-            entities: entities.into(),
-            versions: versions.into(),
-            edges: edges.into(),
+        let tables = Tables {
+            entities: Numbers::Own(entities.into()),
+            versions: Numbers::Own(versions.into()),
+            edges: Numbers::Own(edges.into()),
         };
+        Trail::from_tables(counts, tables)
+    }
+
+    /// The trail with these counts whose rows in use stand in a file from byte `at` on: entities, versions and edges, each number in
+    /// four bytes, the lowest first. Refused if the file ends before, or if the library does not find them sound. They are read where
+    /// they stand, and copied when the first batch comes.
+    pub fn from_file(
+        counts: Counts,
+        file: &Arc<HeldFile>,
+        at: usize,
+    ) -> Result<Trail, FromRowsError> {
+        match Tables::in_file(counts, file, at) {
+            None => Err(FromRowsError::Unsound),
+            Some(tables) => Trail::from_tables(counts, tables),
+        }
+    }
+
+    fn from_tables(counts: Counts, tables: Tables) -> Result<Trail, FromRowsError> {
+        let worker = Worker::start().map_err(FromRowsError::Thread)?;
+        let mut lent = tables;
         let sound = worker.run(&mut lent, move |lent, on_worker| {
             is_sound(on_worker, counts, lent)
         });
@@ -229,12 +249,18 @@ impl fmt::Debug for Trail {
     }
 }
 
-/// The tables, for writing: a copy with the rows in use if others share them, or if their capacity is not the greatest.
-fn for_writing(tables: &mut Arc<Tables>, counts: Counts) -> &mut Tables {
-    if !Arc::get_mut(tables).is_some_and(|tables| tables.is_greatest()) {
+/// The tables, for writing: a copy with the rows in use if others share them, or if they cannot be written as they are.
+fn for_writing(tables: &mut Arc<Tables>, counts: Counts) -> [&mut [u32]; 3] {
+    let mut writable = Arc::get_mut(tables);
+    if writable
+        .as_mut()
+        .and_then(|tables| tables.for_writing())
+        .is_none()
+    {
         *tables = Arc::new(tables.copy_rows(counts));
     }
-    Arc::get_mut(tables).expect("none but the job has them")
+    let tables = Arc::get_mut(tables).expect("none but the job has them");
+    tables.for_writing().expect("a copy can be written")
 }
 
 /// The library's own test: it refuses to write the kept log to no bytes, with 16 if the tables are not sound.

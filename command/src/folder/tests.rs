@@ -65,7 +65,7 @@ fn a_commit_keeps_the_mode_and_leaves_no_other_file() {
     fs::set_permissions(dir.path().join(STATE), Permissions::from_mode(0o440)).unwrap();
     fs::write(dir.path().join(NEW), "left half written").unwrap();
     fs::set_permissions(dir.path().join(NEW), Permissions::from_mode(0o400)).unwrap();
-    let (writer, _) = Writer::open(dir.path()).unwrap();
+    let writer = Writer::open(dir.path()).unwrap();
     writer.commit(&at_start()).unwrap();
     let mode = fs::metadata(dir.path().join(STATE))
         .unwrap()
@@ -86,7 +86,7 @@ fn a_commit_that_fails_leaves_the_state_as_it_was() {
     make(dir.path()).unwrap();
     let before = fs::read(dir.path().join(STATE)).unwrap();
     fs::create_dir(dir.path().join(NEW)).unwrap();
-    let (writer, _) = Writer::open(dir.path()).unwrap();
+    let writer = Writer::open(dir.path()).unwrap();
     let failure = writer.commit(&at_start()).unwrap_err();
     assert_eq!(failure.exit, Exit::InputOutput);
     assert!(
@@ -117,7 +117,6 @@ fn damage_is_said_and_nothing_written() {
         "{}",
         failure.message
     );
-    assert_eq!(exit(Writer::open(dir.path())), Exit::Damaged);
     assert_eq!(fs::read(&state).unwrap(), bytes);
     bytes[8] = 9;
     fs::write(&state, &bytes).unwrap();

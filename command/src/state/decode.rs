@@ -6,8 +6,11 @@ use crate::moment::Moment;
 use crate::names::{Names, NamesError};
 use sha2::{Digest, Sha256};
 use std::fmt;
+use std::fs::File;
 use std::io::{self, ErrorKind, Read};
-use trail::{Counts, FromRowsError, Time, Trail};
+use std::sync::Arc;
+use std::thread;
+use trail::{Counts, FromRowsError, HeldFile, Time, Trail};
 use trail::{EDGE_WIDTH, ENTITY_WIDTH, VERSION_WIDTH};
 
 /// Why there is no state.
@@ -16,10 +19,10 @@ pub enum Unreadable {
     NotAState,
     OtherFormat(u32),
     CutShort {
-        length: u64,
+        length: usize,
     },
     TooLong {
-        more: u64,
+        more: usize,
     },
     OtherChecksum,
     BadStart,
@@ -29,28 +32,112 @@ pub enum Unreadable {
         entities: u32,
     },
     BadNames(NamesError),
-    /// Not the fault of the bytes: they cannot be read, or the thread that tests the tables cannot be started.
+    /// Not the fault of the bytes: they cannot be read, or a thread that tests them cannot be started.
     Read(io::Error),
     Thread(io::Error),
 }
 
 impl State {
+    #[cfg(test)]
     pub fn decode(bytes: &[u8]) -> Result<State, Unreadable> {
-        State::read(bytes, bytes.len() as u64)
+        State::held(HeldFile::from(bytes.to_vec()), |state| state)
     }
 
-    /// Reads the state from a file of this many bytes.
-    pub fn read(file: impl Read, length: u64) -> Result<State, Unreadable> {
-        let parts = Parts::read(Source::new(file, length))?;
-        let start = match (parts.has_start, parts.start) {
+    /// What is made of the state that a file holds; nothing if its checksum, which is computed meanwhile, differs.
+    pub fn in_file<A>(mut file: File, make: impl FnOnce(State) -> A) -> Result<A, Unreadable> {
+        // Before all of it is read: it may be any file.
+        let mut mark = [0; MARK.len()];
+        match file.read_exact(&mut mark) {
+            Err(error) if error.kind() == ErrorKind::UnexpectedEof => {}
+            read => read.map_err(Unreadable::Read)?,
+        }
+        if mark != *MARK {
+            return Err(Unreadable::NotAState);
+        }
+        State::held(HeldFile::new(file).map_err(Unreadable::Read)?, make)
+    }
+
+    fn held<A>(file: HeldFile, make: impl FnOnce(State) -> A) -> Result<A, Unreadable> {
+        let file = Arc::new(file);
+        let parts = Parts::read(&file)?;
+        let (summed, checksum) = (parts.summed, parts.checksum);
+        thread::scope(|scope| {
+            let is_right = thread::Builder::new()
+                .spawn_scoped(scope, move || Sha256::digest(summed).as_slice() == checksum)
+                .map_err(Unreadable::Thread)?;
+            let made = parts.state(&file).map(make);
+            match is_right.join().expect("a sum does not panic") {
+                true => made,
+                false => Err(Unreadable::OtherChecksum),
+            }
+        })
+    }
+}
+
+/// The parts of a state whose lengths fit.
+struct Parts<'a> {
+    has_start: u32,
+    start: i64,
+    counts: Counts,
+    rows_at: usize,
+    names: &'a [u8],
+    taken: Vec<TakenFile>,
+    /// All before the checksum.
+    summed: &'a [u8],
+    checksum: [u8; 32],
+}
+
+impl<'a> Parts<'a> {
+    fn read(file: &'a [u8]) -> Result<Parts<'a>, Unreadable> {
+        let mut reader = Reader { file, at: 0 };
+        match reader.array() {
+            Ok(mark) if mark == *MARK => {}
+            _ => return Err(Unreadable::NotAState),
+        }
+        match reader.u32()? {
+            FORMAT => {}
+            format => return Err(Unreadable::OtherFormat(format)),
+        }
+        let has_start = reader.u32()?;
+        let start = i64::from_le_bytes(reader.array()?);
+        let counts = reader.counts()?;
+        let rows_at = reader.at;
+        reader.rows(counts.entities, ENTITY_WIDTH)?;
+        reader.rows(counts.versions, VERSION_WIDTH)?;
+        reader.rows(counts.edges, EDGE_WIDTH)?;
+        let names_length = u64::from_le_bytes(reader.array()?);
+        let names = reader.bytes(names_length)?;
+        let mut taken = Vec::new();
+        for _ in 0..reader.u32()? {
+            taken.push(reader.taken_file()?);
+        }
+        let summed = &file[..reader.at];
+        let checksum = reader.array()?;
+        match file.len() - reader.at {
+            0 => Ok(Parts {
+                has_start,
+                start,
+                counts,
+                rows_at,
+                names,
+                taken,
+                summed,
+                checksum,
+            }),
+            more => Err(Unreadable::TooLong { more }),
+        }
+    }
+
+    /// The state of these parts of a file.
+    fn state(self, file: &Arc<HeldFile>) -> Result<State, Unreadable> {
+        let start = match (self.has_start, self.start) {
             (0, 0) => None,
             (1, start) => Some(Moment::start_from_hundredths(start).ok_or(Unreadable::BadStart)?),
             _ => return Err(Unreadable::BadStart),
         };
-        let [entities, versions, edges] = parts.rows;
-        let trail = Trail::from_rows(parts.counts, entities, versions, edges)?;
-        let names = Names::from_text(&parts.names).map_err(Unreadable::BadNames)?;
-        let entities = parts.counts.entities;
+        let trail = Trail::from_file(self.counts, file, self.rows_at)?;
+        let names = Names::from_text(self.names).map_err(Unreadable::BadNames)?;
+        let entities = self.counts.entities;
         if names.len() != entities as usize {
             let names = names.len();
             return Err(Unreadable::NamesCount { names, entities });
@@ -59,116 +146,33 @@ impl State {
             start,
             trail,
             names,
-            taken: parts.taken,
+            taken: self.taken,
         })
     }
 }
 
-/// The parts of a state whose lengths fit and whose checksum is right.
-struct Parts {
-    has_start: u32,
-    start: i64,
-    counts: Counts,
-    rows: [Vec<u32>; 3],
-    names: Vec<u8>,
-    taken: Vec<TakenFile>,
+/// Reads a file from its start on.
+struct Reader<'a> {
+    file: &'a [u8],
+    at: usize,
 }
 
-impl Parts {
-    fn read(mut source: Source<impl Read>) -> Result<Parts, Unreadable> {
-        match source.array() {
-            Ok(mark) if mark == *MARK => {}
-            Ok(_) | Err(Unreadable::CutShort { .. }) => return Err(Unreadable::NotAState),
-            Err(error) => return Err(error),
-        }
-        match source.u32()? {
-            FORMAT => {}
-            format => return Err(Unreadable::OtherFormat(format)),
-        }
-        let has_start = source.u32()?;
-        let start = i64::from_le_bytes(source.array()?);
-        let counts = source.counts()?;
-        let rows = [
-            source.rows(counts.entities, ENTITY_WIDTH)?,
-            source.rows(counts.versions, VERSION_WIDTH)?,
-            source.rows(counts.edges, EDGE_WIDTH)?,
-        ];
-        let names_length = u64::from_le_bytes(source.array()?);
-        let names = source.bytes(names_length)?;
-        let mut taken = Vec::new();
-        for _ in 0..source.u32()? {
-            taken.push(source.taken_file()?);
-        }
-        source.end_with_checksum()?;
-        Ok(Parts {
-            has_start,
-            start,
-            counts,
-            rows,
-            names,
-            taken,
-        })
-    }
-}
-
-/// The bytes that are read and summed up at a time, whole numbers of them.
-const PIECE: usize = 64 * 1024;
-
-/// A file that is read from its start on, a piece at a time, and summed up on the way.
-struct Source<R> {
-    file: R,
-    length: u64,
-    left: u64,
-    sum: Sha256,
-    piece: Vec<u8>,
-}
-
-impl<R: Read> Source<R> {
-    fn new(file: R, length: u64) -> Source<R> {
-        Source {
-            file,
-            length,
-            left: length,
-            sum: Sha256::new(),
-            piece: vec![0; PIECE],
-        }
-    }
-
-    /// The next bytes, in pieces.
-    fn pieces(&mut self, length: u64, mut put: impl FnMut(&[u8])) -> Result<(), Unreadable> {
-        let mut left = length;
-        self.left = self.left.checked_sub(length).ok_or(self.cut_short())?;
-        while left > 0 {
-            let piece = &mut self.piece[..left.min(PIECE as u64) as usize];
-            match self.file.read_exact(piece) {
-                Err(error) if error.kind() == ErrorKind::UnexpectedEof => {
-                    return Err(self.cut_short())
-                }
-                read => read.map_err(Unreadable::Read)?,
-            }
-            self.sum.update(&*piece);
-            put(piece);
-            left -= piece.len() as u64;
-        }
-        Ok(())
-    }
-
-    fn cut_short(&self) -> Unreadable {
-        Unreadable::CutShort {
-            length: self.length,
-        }
-    }
-
-    fn bytes(&mut self, length: u64) -> Result<Vec<u8>, Unreadable> {
-        let mut bytes = Vec::with_capacity(length.min(self.left) as usize);
-        self.pieces(length, |piece| bytes.extend_from_slice(piece))?;
+impl<'a> Reader<'a> {
+    fn bytes(&mut self, length: u64) -> Result<&'a [u8], Unreadable> {
+        let rest = &self.file[self.at..];
+        let bytes = usize::try_from(length)
+            .ok()
+            .and_then(|length| rest.get(..length));
+        let bytes = bytes.ok_or(Unreadable::CutShort {
+            length: self.file.len(),
+        })?;
+        self.at += bytes.len();
         Ok(bytes)
     }
 
     fn array<const LENGTH: usize>(&mut self) -> Result<[u8; LENGTH], Unreadable> {
-        let mut array = [0; LENGTH];
-        self.pieces(LENGTH as u64, |piece| array.copy_from_slice(piece))?;
-        Ok(array)
+        let bytes = self.bytes(LENGTH as u64)?;
+        Ok(bytes.try_into().expect("as many as asked for"))
     }
 
     fn u32(&mut self) -> Result<u32, Unreadable> {
@@ -185,36 +189,20 @@ impl<R: Read> Source<R> {
         })
     }
 
-    fn rows(&mut self, count: u32, width: usize) -> Result<Vec<u32>, Unreadable> {
-        let length = u64::from(count) * 4 * width as u64;
-        let mut numbers = Vec::with_capacity(length.min(self.left) as usize / 4);
-        self.pieces(length, |piece| {
-            let (fours, _) = piece.as_chunks();
-            numbers.extend(fours.iter().map(|four| u32::from_le_bytes(*four)));
-        })?;
-        Ok(numbers)
+    fn rows(&mut self, count: u32, width: usize) -> Result<(), Unreadable> {
+        self.bytes(u64::from(count) * 4 * width as u64).map(|_| ())
     }
 
     fn taken_file(&mut self) -> Result<TakenFile, Unreadable> {
         let digest = self.array()?;
         let (records, events, length) = (self.u32()?, self.u32()?, self.u32()?);
-        let name = self.bytes(length.into())?;
+        let name = self.bytes(length.into())?.to_vec();
         Ok(TakenFile {
             digest,
             records,
             events,
             name,
         })
-    }
-
-    fn end_with_checksum(mut self) -> Result<(), Unreadable> {
-        let sum: [u8; 32] = self.sum.clone().finalize().into();
-        let checksum = self.array()?;
-        match self.left {
-            0 if sum == checksum => Ok(()),
-            0 => Err(Unreadable::OtherChecksum),
-            more => Err(Unreadable::TooLong { more }),
-        }
     }
 }
 
@@ -258,7 +246,7 @@ impl fmt::Display for Unreadable {
             Unreadable::BadNames(error) => write!(f, "its names are not those of a trail: {error}"),
             Unreadable::Read(error) => write!(f, "{error}"),
             Unreadable::Thread(error) => {
-                write!(f, "cannot start the thread that tests the tables: {error}")
+                write!(f, "cannot start a thread that tests it: {error}")
             }
         }
     }

@@ -1,11 +1,11 @@
-//! `take --remove` stopped in the middle of its commit, and what others do meanwhile.
+//! `take --remove` stopped in the middle of its commit, and a reader in the middle of its answer; what others do meanwhile.
 
 use crate::common::recording::Files;
 use crate::common::removal::{Left, Removal};
-use crate::common::run::{ANOTHER_WRITER, DONE, REFUSED};
+use crate::common::run::{run, ANOTHER_WRITER, DONE, REFUSED};
 use crate::common::say;
 use crate::common::strace::{tampered, works};
-use std::fs;
+use std::fs::{self, File};
 use std::path::Path;
 use std::process::{Child, Command, Stdio};
 use std::thread::sleep;
@@ -13,8 +13,12 @@ use std::time::Duration;
 
 /// Starts it under strace, which stops it after the first such call; gives the process too, once it stands still.
 fn stop_at(command: &Command, call: &str, log: &Path) -> (Child, String) {
+    stop_printing_at(command, call, log, Stdio::null())
+}
+
+fn stop_printing_at(command: &Command, call: &str, log: &Path, out: Stdio) -> (Child, String) {
     let mut strace = tampered(command, call, 1, "signal=STOP", log);
-    strace.stdout(Stdio::null()).stderr(Stdio::null());
+    strace.stdout(out).stderr(Stdio::null());
     let mut child = strace.spawn().unwrap();
     loop {
         let text = fs::read_to_string(log).unwrap_or_default();
@@ -65,6 +69,27 @@ fn while_a_writer_commits_others_give_up_and_readers_go_on() {
         assert_eq!(go_on(child, &process), DONE, "{call}");
         assert_eq!(removal.check(&folder), Left::DONE, "{call}");
     }
+}
+
+/// A reader has its file open and held when it starts its first thread. A writer puts another file in its place, and does not wait.
+#[test]
+fn a_stopped_reader_holds_no_writer_up_and_keeps_its_answer() {
+    if !works() {
+        say("a stopped reader: not run, strace is not there or may not trace");
+        return;
+    }
+    let removal = Removal::new(53, 100);
+    let folder = removal.lay();
+    let asked = ["list", "--json"];
+    let before = folder.run(asked).expect(DONE).out;
+    let (printed, log) = (folder.join("printed"), folder.join("calls"));
+    let out = File::create(&printed).unwrap().into();
+    let (child, process) = stop_printing_at(&folder.command(asked), "clone,clone3", &log, out);
+    run(&mut removal.take(&folder)).expect(DONE);
+    assert_eq!(removal.check(&folder), Left::DONE);
+    assert_ne!(folder.run(asked).expect(DONE).out, before);
+    assert_eq!(go_on(child, &process), DONE);
+    assert!(fs::read(&printed).unwrap() == before);
 }
 
 type Change = (&'static str, fn(&Path));

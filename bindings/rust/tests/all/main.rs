@@ -8,6 +8,7 @@ mod from_rows;
 mod full_trail;
 mod grown_trails;
 mod header;
+mod held_files;
 mod records;
 mod refused_batches;
 mod signatures;

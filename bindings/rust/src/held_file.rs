@@ -1,0 +1,49 @@
+//! A file's bytes as they are when it is opened.
+
+use crate::ffi::Mapping;
+use std::fs::File;
+use std::io::{self, Read, Seek};
+use std::ops::Deref;
+
+/// The bytes of a file, which stay as they are. Where the system allows it they are not copied: as long as this lives, a program that
+/// opens the file for writing, or cuts it, is made to wait (a read lease of Linux, which the owner of a file gets while no one has it
+/// open for writing). To put another file in its place, as `rename` does, is always possible. Elsewhere they are a copy.
+#[derive(Debug)]
+pub struct HeldFile(Bytes);
+
+#[derive(Debug)]
+enum Bytes {
+    Held(Mapping),
+    Copied(Vec<u8>),
+}
+
+impl HeldFile {
+    /// All of a file that is open for reading alone.
+    pub fn new(mut file: File) -> io::Result<HeldFile> {
+        if let Some(mapping) = Mapping::new(file.try_clone()?) {
+            return Ok(HeldFile(Bytes::Held(mapping)));
+        }
+        let mut bytes = Vec::new();
+        file.rewind()?;
+        file.read_to_end(&mut bytes)?;
+        Ok(HeldFile(Bytes::Copied(bytes)))
+    }
+}
+
+/// Bytes that stand in no file.
+impl From<Vec<u8>> for HeldFile {
+    fn from(bytes: Vec<u8>) -> HeldFile {
+        HeldFile(Bytes::Copied(bytes))
+    }
+}
+
+impl Deref for HeldFile {
+    type Target = [u8];
+
+    fn deref(&self) -> &[u8] {
+        match &self.0 {
+            Bytes::Held(mapping) => mapping.bytes(),
+            Bytes::Copied(bytes) => bytes,
+        }
+    }
+}
