@@ -6,16 +6,19 @@ DESTDIR =
 INSTALL = install
 
 version = $(shell sed -n 's/^\#define SLT_VERSION "\(.*\)"/\1/p' include/trail.h)
+archive = target/staticlib/libtrail.a
 program = command/target/release/trail
 root = $(DESTDIR)$(PREFIX)
 
 .PHONY: build example test bench install uninstall
 
-build:
+build: $(archive)
+	@tools/cargo-command build --release --quiet
+
+$(archive): crates.txt $(shell find crates -name '*.rt' -o -name '*.antt')
 	@echo "proves and builds the library, some minutes the first time (target/build.log)"
 	@mkdir -p target
 	@rt staticlib trail > target/build.log 2>&1 || { tail target/build.log; exit 1; }
-	@tools/cargo-command build --release --quiet
 
 example: build
 	@tools/example
@@ -30,7 +33,7 @@ bench: build
 install: build
 	$(INSTALL) -D -m 755 $(program) $(root)/bin/trail
 	$(INSTALL) -D -m 644 include/trail.h $(root)/include/trail.h
-	$(INSTALL) -D -m 644 target/staticlib/libtrail.a $(root)/lib/libtrail.a
+	$(INSTALL) -D -m 644 $(archive) $(root)/lib/libtrail.a
 	$(INSTALL) -D -m 644 command/trail.1 $(root)/share/man/man1/trail.1
 	$(INSTALL) -d $(root)/lib/pkgconfig $(root)/share/bash-completion/completions $(root)/share/zsh/site-functions \
 	    $(root)/share/fish/vendor_completions.d
