@@ -15,10 +15,10 @@ root = $(DESTDIR)$(PREFIX)
 build: $(archive)
 	@tools/cargo-command build --release --quiet
 
-$(archive): crates.txt $(shell find crates -name '*.rt' -o -name '*.antt')
+$(archive): crates.txt $(shell find crates)
 	@echo "proves and builds the library, some minutes the first time (target/build.log)"
 	@mkdir -p target
-	@rt staticlib trail > target/build.log 2>&1 || { tail target/build.log; exit 1; }
+	@rt staticlib trail > target/build.log 2>&1 || { rm -f $@; tail target/build.log; exit 1; }
 
 example: build
 	@tools/example

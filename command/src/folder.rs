@@ -15,13 +15,16 @@ const LOCK: &str = "lock";
 
 /// Reads the state of the trail in a folder.
 pub fn read(dir: &Path) -> Result<State, Failure> {
-    ask(dir, Ok)
+    State::read(open(dir)?).map_err(|error| unreadable(dir, error))
 }
 
-/// What is answered from the state of the trail in a folder.
+/// What is answered, in moments, from the state of the trail in a folder.
 pub fn ask<A>(dir: &Path, answer: impl FnOnce(State) -> Result<A, Failure>) -> Result<A, Failure> {
-    let file = File::open(dir.join(STATE)).map_err(|error| no_state(dir, error))?;
-    State::in_file(file, answer).map_err(|error| unreadable(dir, error))?
+    State::ask(open(dir)?, answer).map_err(|error| unreadable(dir, error))?
+}
+
+fn open(dir: &Path) -> Result<File, Failure> {
+    File::open(dir.join(STATE)).map_err(|error| no_state(dir, error))
 }
 
 /// The one who may write the trail in a folder, until it is dropped.
@@ -106,36 +109,32 @@ impl Writer {
 
     /// Writes a state, and reads it back while it is put on disk.
     fn write_new(&self, new: &Path, state: &State) -> Result<(), Failure> {
-        let written = self
-            .create(new, state)
-            .map_err(|error| not_written(new, error))?;
+        let failed = |error| not_written(new, error);
+        let (file, again) = self.create(new).map_err(failed)?;
+        state.write(&file).map_err(failed)?;
         thread::scope(|scope| {
-            let read_back = || State::in_file(File::open(new).map_err(Unreadable::Read)?, |_| ());
             let read_back = thread::Builder::new()
-                .spawn_scoped(scope, read_back)
-                .map_err(|error| not_written(new, error))?;
-            written
-                .sync_all()
-                .map_err(|error| not_written(new, error))?;
+                .spawn_scoped(scope, || State::ask(again, |_| ()))
+                .map_err(failed)?;
+            file.sync_all().map_err(failed)?;
             let read_back = read_back.join().expect("reading does not panic");
             read_back.map_err(not_read_back)
         })
     }
 
-    /// Writes a state to a new file. What is returned is not open for writing: the file can be held while it is synced.
-    fn create(&self, new: &Path, state: &State) -> io::Result<File> {
+    /// A new file, open for writing and once more for reading.
+    fn create(&self, new: &Path) -> io::Result<(File, File)> {
         // One that was left half written may not be writable.
         match fs::remove_file(new) {
             Err(error) if error.kind() == ErrorKind::NotFound => {}
             removed => removed?,
         }
         let file = File::create_new(new)?;
-        let written = File::open(new)?;
+        let again = File::open(new)?;
         if let Ok(before) = fs::metadata(self.dir.join(STATE)) {
             file.set_permissions(before.permissions())?;
         }
-        state.write(file)?;
-        Ok(written)
+        Ok((file, again))
     }
 }
 

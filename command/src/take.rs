@@ -17,7 +17,7 @@ use trail::Trail;
 
 pub fn run(dir: &Path, files: &[PathBuf], remove: bool) -> Result<Report, Failure> {
     let writer = Writer::open(dir)?;
-    let mut taking = folder::ask(dir, |state| Taking::all(state, files))?;
+    let mut taking = Taking::all(folder::read(dir)?, files)?;
     let is_new = |outcome: &Outcome| matches!(outcome, Outcome::Taken(..));
     if taking.outcomes.iter().any(is_new) {
         writer.commit(&taking.state)?;

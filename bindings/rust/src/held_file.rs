@@ -5,9 +5,11 @@ use std::fs::File;
 use std::io::{self, Read, Seek};
 use std::ops::Deref;
 
-/// The bytes of a file, which stay as they are. Where the system allows it they are not copied: as long as this lives, a program that
-/// opens the file for writing, or cuts it, is made to wait (a read lease of Linux, which the owner of a file gets while no one has it
-/// open for writing). To put another file in its place, as `rename` does, is always possible. Elsewhere they are a copy.
+/// The bytes of a file, which stay as they are. They are not copied where Linux gives a read lease on the file: to its owner, while no
+/// one has it open for writing. A program that would then open it for writing, or cut it, is made to wait or refused until this is
+/// dropped, but for no longer than `/proc/sys/fs/lease-break-time`, 45 seconds unless it is changed: hold a file for moments, and let a
+/// trail that lives longer have rows of its own ([`Trail::detach`](crate::Trail::detach)). To put another file in its place, as `rename`
+/// does, is always possible. Where there is no lease they are a copy.
 #[derive(Debug)]
 pub struct HeldFile(Bytes);
 

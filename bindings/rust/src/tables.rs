@@ -50,6 +50,13 @@ impl Tables {
         })
     }
 
+    pub fn stand_in_a_file(&self) -> bool {
+        let tables = [&self.entities, &self.versions, &self.edges];
+        tables
+            .iter()
+            .any(|numbers| matches!(numbers, Numbers::InFile(..)))
+    }
+
     /// The tables for writing, if they are their own and of the greatest capacity.
     pub fn for_writing(&mut self) -> Option<[&mut [u32]; 3]> {
         Some([

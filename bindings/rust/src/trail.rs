@@ -59,7 +59,7 @@ impl Trail {
 
     /// The trail with these counts whose rows in use stand in a file from byte `at` on: entities, versions and edges, each number in
     /// four bytes, the lowest first. Refused if the file ends before, or if the library does not find them sound. They are read where
-    /// they stand, and copied when the first batch comes.
+    /// they stand until the first batch, or until they are detached.
     pub fn from_file(
         counts: Counts,
         file: &Arc<HeldFile>,
@@ -68,6 +68,13 @@ impl Trail {
         match Tables::in_file(counts, file, at) {
             None => Err(FromRowsError::Unsound),
             Some(tables) => Trail::from_tables(counts, tables),
+        }
+    }
+
+    /// Copies the rows if they stand in a file, which the trail then needs no more.
+    pub fn detach(&mut self) {
+        if self.tables.stand_in_a_file() {
+            self.tables = Arc::new(self.tables.copy_rows(self.counts));
         }
     }
 

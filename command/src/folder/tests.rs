@@ -2,7 +2,7 @@ use super::{read, Writer, LOCK, NEW, STATE};
 use crate::failure::{Exit, Failure};
 use crate::moment::Moment;
 use crate::state::State;
-use std::fs::{self, Permissions};
+use std::fs::{self, File, Permissions};
 use std::os::unix::fs::PermissionsExt;
 use std::path::Path;
 
@@ -118,6 +118,15 @@ fn damage_is_said_and_nothing_written() {
         failure.message
     );
     assert_eq!(fs::read(&state).unwrap(), bytes);
+    let file = File::options().write(true).open(&state).unwrap();
+    file.set_len((1 << 30) + 1).unwrap();
+    let failure = read(dir.path()).unwrap_err();
+    assert_eq!(failure.exit, Exit::Damaged);
+    assert!(
+        failure.message.contains("longer than any"),
+        "{}",
+        failure.message
+    );
     bytes[8] = 9;
     fs::write(&state, &bytes).unwrap();
     let failure = read(dir.path()).unwrap_err();

@@ -13,10 +13,14 @@ use std::thread;
 use trail::{Counts, FromRowsError, HeldFile, Time, Trail};
 use trail::{EDGE_WIDTH, ENTITY_WIDTH, VERSION_WIDTH};
 
+/// More than any state has: its rows, 7.4 MB at most, names and files taken in.
+const MOST_BYTES: u64 = 1 << 30;
+
 /// Why there is no state.
 #[derive(Debug)]
 pub enum Unreadable {
     NotAState,
+    LongerThanAny,
     OtherFormat(u32),
     CutShort {
         length: usize,
@@ -43,8 +47,16 @@ impl State {
         State::held(HeldFile::from(bytes.to_vec()), |state| state)
     }
 
-    /// What is made of the state that a file holds; nothing if its checksum, which is computed meanwhile, differs.
-    pub fn in_file<A>(mut file: File, make: impl FnOnce(State) -> A) -> Result<A, Unreadable> {
+    /// The state that a file holds.
+    pub fn read(file: File) -> Result<State, Unreadable> {
+        State::ask(file, |mut state| {
+            state.trail.detach();
+            state
+        })
+    }
+
+    /// What is answered, in moments, from the state that a file holds; nothing if its checksum, which is computed meanwhile, differs.
+    pub fn ask<A>(mut file: File, answer: impl FnOnce(State) -> A) -> Result<A, Unreadable> {
         // Before all of it is read: it may be any file.
         let mut mark = [0; MARK.len()];
         match file.read_exact(&mut mark) {
@@ -54,10 +66,13 @@ impl State {
         if mark != *MARK {
             return Err(Unreadable::NotAState);
         }
-        State::held(HeldFile::new(file).map_err(Unreadable::Read)?, make)
+        if file.metadata().map_err(Unreadable::Read)?.len() > MOST_BYTES {
+            return Err(Unreadable::LongerThanAny);
+        }
+        State::held(HeldFile::new(file).map_err(Unreadable::Read)?, answer)
     }
 
-    fn held<A>(file: HeldFile, make: impl FnOnce(State) -> A) -> Result<A, Unreadable> {
+    fn held<A>(file: HeldFile, answer: impl FnOnce(State) -> A) -> Result<A, Unreadable> {
         let file = Arc::new(file);
         let parts = Parts::read(&file)?;
         let (summed, checksum) = (parts.summed, parts.checksum);
@@ -65,9 +80,9 @@ impl State {
             let is_right = thread::Builder::new()
                 .spawn_scoped(scope, move || Sha256::digest(summed).as_slice() == checksum)
                 .map_err(Unreadable::Thread)?;
-            let made = parts.state(&file).map(make);
+            let answer = parts.state(&file).map(answer);
             match is_right.join().expect("a sum does not panic") {
-                true => made,
+                true => answer,
                 false => Err(Unreadable::OtherChecksum),
             }
         })
@@ -219,6 +234,7 @@ impl fmt::Display for Unreadable {
     fn fmt(&self, f: &mut fmt::Formatter) -> fmt::Result {
         match self {
             Unreadable::NotAState => write!(f, "it does not begin as the state of a trail does"),
+            Unreadable::LongerThanAny => write!(f, "it is longer than any state of a trail"),
             Unreadable::OtherFormat(format) => {
                 write!(
                     f,

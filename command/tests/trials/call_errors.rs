@@ -1,7 +1,7 @@
 //! `take --remove` when a call on files fails, each in turn: exit 7, the trail whole, no recording lost before the trail has it.
 
 use crate::common::removal::{Left, Removal};
-use crate::common::run::{run, DONE, INPUT_OUTPUT};
+use crate::common::run::{program, run, DONE, INPUT_OUTPUT};
 use crate::common::say;
 use crate::common::strace::{calls, tampered, traced, works, Call};
 use std::fs;
@@ -32,6 +32,31 @@ fn a_failed_call_is_told_and_loses_nothing() {
         one + two
     ));
     assert!(taken.iter().all(|count| *count > 0));
+}
+
+/// The new state is read back on another thread: its first read is made to fail, then the one after it.
+#[test]
+fn a_state_that_cannot_be_read_back_takes_no_place() {
+    if !works() {
+        say("a state not read back: not run, strace is not there or may not trace");
+        return;
+    }
+    let removal = Removal::new(11, 60);
+    for number in [1, 2] {
+        let folder = removal.lay();
+        let (new, log) = (folder.trail().join("state.new"), folder.join("calls"));
+        let take = removal.take(&folder);
+        let failing = tampered(&take, "read", number, "error=EIO", &log);
+        let mut strace = program("strace");
+        strace.arg("-P").arg(&new).args(failing.get_args());
+        strace.current_dir(take.get_current_dir().unwrap());
+        let ended = run(&mut strace).expect(INPUT_OUTPUT);
+        ended.says(&["cannot be read back", "stays as it was"]);
+        assert!(fs::read_to_string(log).unwrap().contains("INJECTED"));
+        assert_eq!(removal.check(&folder), Left::OLD);
+        assert!(!new.exists());
+        removal.finish(&folder);
+    }
 }
 
 fn with_failing(removal: &Removal, call: &Call) -> Left {

@@ -6,7 +6,8 @@ use std::os::fd::AsRawFd;
 use std::ptr;
 use std::slice;
 
-/// A whole file in memory. While this lives, whoever would open the file for writing, or cut it, waits.
+/// A whole file in memory. While this lives, whoever would open the file for writing, or cut it, waits or is refused, for as long as
+/// the system lets a lease stand in the way.
 #[derive(Debug)]
 pub struct Mapping {
     start: *const u8,
@@ -39,8 +40,12 @@ const MAP_PRIVATE: c_int = 2;
 const MADV_POPULATE_READ: c_int = 22;
 
 impl Mapping {
-    /// Not if the system gives no lease on the file (it is another user's, or open for writing), or cannot read all of it.
+    /// Not if the system gives no lease on the file (it is another user's, or open for writing), or cannot read all of it, or if it
+    /// has no byte.
     pub fn new(file: File) -> Option<Mapping> {
+        if !cfg!(all(target_os = "linux", target_arch = "x86_64")) {
+            return None;
+        }
         let number = file.as_raw_fd();
         // SAFETY: the calls name no memory.
         let leased = unsafe {
@@ -61,7 +66,7 @@ impl Mapping {
             length,
             _file: file,
         };
-        // SAFETY: the memory is the mapping's; what cannot be read is told here, and not by a signal later.
+        // SAFETY: the memory is the mapping's. What cannot be read is told here; later it would be told by a signal.
         let is_read = unsafe { madvise(start, length, MADV_POPULATE_READ) } == 0;
         is_read.then_some(mapping)
     }
@@ -81,5 +86,25 @@ impl Drop for Mapping {
     fn drop(&mut self) {
         // SAFETY: no one has the bytes any more.
         unsafe { munmap(self.start.cast_mut().cast(), self.length) };
+    }
+}
+
+#[cfg(test)]
+mod tests {
+    use super::*;
+    use std::{env, fs, process};
+
+    #[test]
+    fn a_file_in_the_temporary_folder_is_held() {
+        let path = env::temp_dir().join(format!("trail-{}-mapping", process::id()));
+        fs::write(&path, b"bytes").unwrap();
+        let open = || File::open(&path).unwrap();
+        assert_eq!(Mapping::new(open()).unwrap().bytes(), b"bytes");
+        let writer = File::options().write(true).open(&path).unwrap();
+        assert!(Mapping::new(open()).is_none());
+        drop(writer);
+        fs::write(&path, b"").unwrap();
+        assert!(Mapping::new(open()).is_none());
+        fs::remove_file(&path).unwrap();
     }
 }

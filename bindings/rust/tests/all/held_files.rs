@@ -140,6 +140,22 @@ fn a_trail_has_the_rows_that_stand_in_a_file() {
 }
 
 #[test]
+fn a_detached_trail_needs_the_file_no_more() {
+    let trail = worked_trail();
+    let scratch = Scratch::new("detached", &file_of(&trail, 44));
+    let file = Arc::new(scratch.held());
+    let mut again = Trail::from_file(trail.counts(), &file, 44).unwrap();
+    let other = again.clone();
+    assert_eq!(Arc::strong_count(&file), 4);
+    again.detach();
+    assert_same(&again, &trail);
+    drop(other);
+    assert_eq!(Arc::strong_count(&file), 1);
+    again.detach();
+    assert_same(&again, &trail);
+}
+
+#[test]
 fn a_batch_leaves_the_file_as_it_is() {
     let trail = worked_trail();
     let bytes = file_of(&trail, 0);
