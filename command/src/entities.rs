@@ -3,7 +3,6 @@
 use crate::state::State;
 use crate::{show, typed};
 use serde_json::Value;
-use std::fmt::Write;
 use trail::EntityNo;
 
 /// An entity's name without generation and, if it is a program, without `[PID]`.
@@ -32,12 +31,11 @@ pub fn in_order(state: &State, entities: impl Iterator<Item = EntityNo>) -> Vec<
 
 /// A line for each entity: its sort and name.
 pub fn lines(state: &State, entities: &[EntityNo]) -> String {
-    let mut text = String::new();
-    for entity in entities {
+    let line = |entity: &EntityNo| {
         let sort = show::sort_word(show::sort(state, *entity));
-        let _ = writeln!(text, "{sort:<7}  {}", show::entity(state, *entity));
-    }
-    text
+        format!("{sort:<7}  {}\n", show::entity(state, *entity))
+    };
+    entities.iter().map(line).collect()
 }
 
 pub fn json(state: &State, entities: &[EntityNo]) -> Value {

@@ -72,7 +72,7 @@ impl Mapping {
     }
 
     pub fn bytes(&self) -> &[u8] {
-        // SAFETY: the mapping lives as long as this, was read whole, and no one writes to the file.
+        // SAFETY: the mapping lives as long as this, was read whole, and no one writes to the file while the lease stands.
         unsafe { slice::from_raw_parts(self.start, self.length) }
     }
 }
