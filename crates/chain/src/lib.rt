@@ -1,4 +1,5 @@
 // The chain in words (document 02, 2.6): the call that writes why one entity stands behind another.
+#![tactic(auto)]
 mod checks;
 mod text;
 

@@ -1,5 +1,6 @@
 // The listing program (document 01, "A worked trail"): takes the event file on standard input into a fresh trail and
 // prints the counts, the edges and the refusal. The text is rules' listing_of.
+#![tactic(auto)]
 use libc::{STDIN_FILENO, STDOUT_FILENO};
 use rows::{Counts, EdgeNo};
 use rules::BatchAnswer;

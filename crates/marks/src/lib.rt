@@ -1,4 +1,5 @@
 // Buffers of marks: 1 where a version or an entity is marked, else 0.
+#![tactic(auto)]
 mod owners;
 
 ghost use mathlib.Core.Path.{◌≡◌};

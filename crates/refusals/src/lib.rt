@@ -1,8 +1,9 @@
 // The refusals of documents 01 and 02 by name. Their numbers stand in one definition, refusal_no.
+#![tactic(auto)]
 ghost use Rattle.std.specs.Prelude.{◌≡◌};
 ghost use Rattle.refusals.specs.Refusals.{refusal_no};
 
-#[derive(Drop)]
+#[derive(Clone, Copy)]
 pub enum Refusal {
     // because of the input
     NotEventFile,
@@ -27,7 +28,7 @@ pub enum Refusal {
 }
 
 // What a list of checks gives.
-#[derive(Drop)]
+#[derive(Clone, Copy)]
 pub enum Checked {
     Passed,
     Refused(Refusal),

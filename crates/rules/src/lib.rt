@@ -1,8 +1,9 @@
 // The types that the definitions of document 01 share with the calls. No code: the definitions are in specs/.
+#![tactic(auto)]
 use rows::EdgeNo;
 
 // Which edge a search found.
-#[derive(Drop)]
+#[derive(Clone, Copy)]
 pub enum Found {
     At(EdgeNo),
     Nothing,
@@ -10,7 +11,7 @@ pub enum Found {
 
 // What becomes of an event: it repeats what an edge already gave, or its edge enters the target's
 // latest version, or a new one.
-#[derive(Drop)]
+#[derive(Clone, Copy)]
 pub enum Decision {
     Repeat(EdgeNo),
     Widen,
@@ -19,7 +20,7 @@ pub enum Decision {
 
 // What the calls return.
 #[repr(C)]
-#[derive(Drop)]
+#[derive(Clone, Copy)]
 pub struct BatchAnswer {
     pub refusal: u32,
     pub taken: u32,
@@ -27,14 +28,14 @@ pub struct BatchAnswer {
 }
 
 #[repr(C)]
-#[derive(Drop)]
+#[derive(Clone, Copy)]
 pub struct BackwardAnswer {
     pub refusal: u32,
     pub count: u32,
 }
 
 #[repr(C)]
-#[derive(Drop)]
+#[derive(Clone, Copy)]
 pub struct ForwardAnswer {
     pub refusal: u32,
     pub count: u32,
@@ -42,7 +43,7 @@ pub struct ForwardAnswer {
 }
 
 #[repr(C)]
-#[derive(Drop)]
+#[derive(Clone, Copy)]
 pub struct LogAnswer {
     pub refusal: u32,
     pub length: u32,

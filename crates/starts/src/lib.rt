@@ -1,4 +1,5 @@
 // The start version of a trace, and those of the members of a list.
+#![tactic(auto)]
 mod checks;
 
 ghost use mathlib.Core.Path.{◌≡◌};

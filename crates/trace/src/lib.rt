@@ -1,4 +1,5 @@
 // Backward and forward traces over the lent tables (document 01, "Traces"). Marks stand in the lent buffers alone.
+#![tactic(auto)]
 mod back;
 mod checks;
 mod intake;

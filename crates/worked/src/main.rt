@@ -1,4 +1,5 @@
 // The worked trail of document 01 through the calls: the batch, P2 to P8, and the kept log's length.
+#![tactic(auto)]
 use libc::STDOUT_FILENO;
 use rows::Counts;
 
