@@ -5,7 +5,7 @@ use mathlib.Core.Logic.{◌↔◌}
 use mathlib.Core.Bool.{Bool, true, false, ◌||◌, not, cond}
 use mathlib.Core.List.{List, ◌∷◌, Memᴰ}
 use lib.Dec.{eqb, leb}
-use borrow.Author.Tests.{eqb-true, eqb-false, leb-true, eq-eqb, ne_eqb, le-leb, not_true}
+use borrow.Author.Tests.{eqb-true, eqb-false, leb-true, eq-eqb, ne_eqb, le-leb, not-true}
 use Rattle.rows.specs.declared.VersionRow.{VersionRow}
 use Rattle.rows.specs.declared.EdgeRow.{EdgeRow}
 use Rattle.rules.specs.Trail.{none}
@@ -56,7 +56,7 @@ followed_iff s t e = (λ q r. leb-true _ _ (subst (λ b. (not b || leb e.time t)
     go h false q = refl
 
 previous_iff : (W : ℕ → VersionRow) (k : ℕ) → has_previous W k ≡ true ↔ ((W k).previous.0 ≡ none → ⊥)
-previous_iff W k = (λ q. eqb-false _ _ (not_true _ q), λ h. ap not (ne_eqb _ _ h))
+previous_iff W k = (λ q. eqb-false _ _ (not-true _ q), λ h. ap not (ne_eqb _ _ h))
 
 pub edges_back_iff : (E : ℕ → EdgeRow) (s t n : ℕ) (x : Arc)
     → Memᴰ x (edges_back E s t n) ↔ ((k : ℕ) × (k < n) × ((E k).to.0 ≡ s → (E k).time ≤ t) × (x ≡ arc (E k).to.0 (E k).from.0))

@@ -129,7 +129,7 @@ fn edges_back(
 }
 
 // The step of version v.
-fn step_back_lem(versions: &[u32], work: &mut [u8], v: VersionNo) -> bool
+fn step_back(versions: &[u32], work: &mut [u8], v: VersionNo) -> bool
     requires { v.0 < version_capacity versions.now }
     ensures { Followed (step_back v.0 (version_at versions.now v.0).previous.0) work.old result work.new }
 {
@@ -145,7 +145,7 @@ fn steps_back(versions: &[u32], n: u32, work: &mut [u8]) -> bool
     let mut v = n;
     while 0 < v {
         v -= 1;
-        let r = step_back_lem(versions, work, VersionNo(v));
+        let r = step_back(versions, work, VersionNo(v));
         changed = changed | r;
     }
     changed

@@ -6,7 +6,7 @@ use mathlib.Core.Bool.{Bool, true, false, ◌&&◌, beq, and_assoc, and-true}
 use mathlib.Core.List.{List, [], ◌∷◌}
 use lib.Dec.{eqb}
 use lib.ListN.{get_or}
-use borrow.Author.Tests.{ltb-true, leb-true, eqb-false, not_true, lt-ltb, le-leb, ne_eqb}
+use borrow.Author.Tests.{ltb-true, leb-true, eqb-false, not-true, lt-ltb, le-leb, ne_eqb}
 use Rattle.refusals.proofs.Checks.{not_true_of}
 use Rattle.record.specs.Layout.{most_kind}
 use Rattle.rules.specs.Trail.{Trail, owner_of}
@@ -96,7 +96,7 @@ module _ (T : Trail) (owners : List ℕ) (o : Owners T T.counts.versions owners)
           record {
             from_in = l;
             to_in = m;
-            apart = λ e. eqb-false _ _ (not_true _ (r 1)) (o from l ∙ ap (code_of T.entity) e ∙ sym (o to m));
+            apart = λ e. eqb-false _ _ (not-true _ (r 1)) (o from l ∙ ap (code_of T.entity) e ∙ sym (o to m));
             kind_low = leb-true _ _ (s 0);
             kind_high = leb-true _ _ (q 2);
             source_fits_lem = sym (source_of (T.edge k).kind from l) ∙ s 1;

@@ -2,7 +2,7 @@
 use Prim.Native.Nat.{ℕ, suc, ◌≤◌, ◌<◌}
 use mathlib.Core.Path.{◌≡◌}
 use mathlib.Core.Bool.{true}
-use borrow.Author.Tests.{ltb-true, leb-true, eqb-true, eqb-false, not_true, eq-eqb, ne_eqb}
+use borrow.Author.Tests.{ltb-true, leb-true, eqb-true, eqb-false, not-true, eq-eqb, ne_eqb}
 use Rattle.rows.specs.declared.Counts.{Counts}
 use Rattle.rules.specs.Trail.{Capacity, Trail, none, owner_of}
 use Rattle.rules.specs.Sound.{all_below, may_follow, time_before, count_sum, sound_counts, sound_entity, sound_previous, sound_version, entity_test, version_test, edge_test, is_sound}
@@ -68,7 +68,7 @@ module _ (T : Trail) where
         record {
           from_in = ltb-true _ _ (q 0);
           to_in = ltb-true _ _ (q 1);
-          apart = eqb-false _ _ (not_true _ (q 2));
+          apart = eqb-false _ _ (not-true _ (q 2));
           kind_low = leb-true _ _ (q 3);
           kind_high = leb-true _ _ (q 4);
           source_fits_lem = q 5;

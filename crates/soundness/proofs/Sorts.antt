@@ -5,7 +5,7 @@ use mathlib.Core.Path.{◌≡◌, refl, sym, ◌∙◌, ap}
 use mathlib.Core.Logic.{inl, inr}
 use mathlib.Core.Bool.{Bool, true, false, cond, ◌||◌, not}
 use lib.Dec.{eqb}
-use borrow.Author.Tests.{eqb-true, eqb-false, not_true, eq-eqb, ne_eqb}
+use borrow.Author.Tests.{eqb-true, eqb-false, not-true, eq-eqb, ne_eqb}
 use Rattle.refusals.proofs.Checks.{not_true_of}
 use Rattle.record.specs.declared.Kind.TheVariants.{Write, Fork}
 use Rattle.record.specs.Layout.{kind_no}
@@ -48,7 +48,7 @@ object_of s h = not_true_of _ h
 
 pub object_no_subject : (s : ℕ) → is_object s ≡ true → is_subject s ≡ false
 unfolding is_object
-object_no_subject s h = not_true _ h
+object_no_subject s h = not-true _ h
 
 -- an entity that keeps its sort or is signed
 

@@ -2,7 +2,7 @@
 use mathlib.Core.Path.{◌≡◌, sym, ◌∙◌}
 use mathlib.Core.Bool.{Bool, true, false, not, ◌&&◌, and-true}
 use mathlib.Core.List.{List, [], ◌∷◌}
-use borrow.Author.Tests.{not_true, not-false}
+use borrow.Author.Tests.{not-true, not-false}
 use Rattle.refusals.proofs.Checks.{pick_true, pick_false, plain}
 use Rattle.rules.specs.Sound.{every}
 use Rattle.soundness.proofs.All.{and_of}
@@ -25,7 +25,7 @@ pub true_by_not : (b r : Bool) → r ≡ b → not r ≡ false → b ≡ true
 true_by_not b r p h = sym p ∙ not-false r h
 
 pub false_by_not : (b r : Bool) → r ≡ b → not r ≡ true → b ≡ false
-false_by_not b r p h = sym p ∙ not_true r h
+false_by_not b r p h = sym p ∙ not-true r h
 
 -- one test and another
 module _ (a b : Bool) where

@@ -42,13 +42,13 @@ pub fn target_sort(kind: u32) -> u8
 
 // Whether an entity of this sort may be the source of an event of this kind, or the target. Kinds come mixed, so there is one
 // test of both and no branch on the kind.
-pub fn source_fits_lem(kind: u32, sort: u32) -> bool
+pub fn source_fits(kind: u32, sort: u32) -> bool
     ensures { result ≡ source_fits kind sort }
 {
     declared_sort(sort) == source_sort(kind)
 }
 
-pub fn target_fits_lem(kind: u32, sort: u32) -> bool
+pub fn target_fits(kind: u32, sort: u32) -> bool
     ensures { result ≡ target_fits kind sort }
 {
     declared_sort(sort) == target_sort(kind)

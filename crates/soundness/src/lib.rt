@@ -12,7 +12,7 @@ use rows::{Counts, EdgeNo, EdgeRow, EntityNo, EntityRow, MOST_VERSIONS, VersionN
 
 mod fits;
 
-pub use fits::{declared_sort, source_fits_lem, target_fits_lem, target_sort};
+pub use fits::{declared_sort, source_fits, target_fits, target_sort};
 
 // The previous of a first version.
 pub const NONE: u32 = 0xFFFFFFFF;

@@ -8,7 +8,7 @@ use mathlib.Core.List.{List, [], ◌∷◌, Memᴰ}
 use lib.ListN.{length, get_or, set, drop, replicate, drop_of_length-le}
 use lib.Seq.{drop-cons, set_out}
 use lib.Dec.{eqb}
-use borrow.Author.Tests.{eqb-true, not_true, not-false}
+use borrow.Author.Tests.{eqb-true, not-true, not-false}
 use Rattle.rows.specs.declared.VersionNo.{VersionNo}
 use Rattle.rows.specs.declared.Counts.{Counts}
 use Rattle.rules.specs.Trail.{Trail, tables, trail_of}
@@ -27,7 +27,7 @@ module _ (T : Trail) (t u : ℕ) (work seen : List ℕ) (r : Bool) (seen' : List
   start_seen h = record { member = w.marks; start = rw (not-false (eqb (get_or seen u 0) 1) (sym w.changed ∙ h)) }
 
   pub start_new : (s : VersionNo) → s.0 ≡ start_of T u t → (work' : List ℕ) → work' ≡ set work s.0 1 → r ≡ true → StartMarked T t u work seen work' seen'
-  start_new s e work' q h = record { member = w.marks; start = rw (not_true (eqb (get_or seen u 0) 1) (sym w.changed ∙ h)) (q ∙ ap (λ v. set work v 1) e) }
+  start_new s e work' q h = record { member = w.marks; start = rw (not-true (eqb (get_or seen u 0) 1) (sym w.changed ∙ h)) (q ∙ ap (λ v. set work v 1) e) }
 
 -- a seed that is there already adds no mark
 seeded_again : (n : ℕ) (ss : List ℕ) (s : ℕ) → Memᴰ s ss → set (seeded n ss) s 1 ≡ seeded n ss

@@ -35,7 +35,7 @@ fn targets_on(edges: &[u32], d: u32, work: &mut [u8]) -> bool
 }
 
 // Along edge k, and the step to the version that it enters: one write for both, and none where that version is marked.
-fn edge_on_lem(versions: &[u32], edges: &[u32], work: &mut [u8], k: EdgeNo) -> bool
+fn edge_on(versions: &[u32], edges: &[u32], work: &mut [u8], k: EdgeNo) -> bool
     requires { (k.0 < edge_capacity edges.now) × (length work.old ≤ none) }
     ensures { Followed (edge_on (version_at versions.now) (edge_at edges.now k.0)) work.old result work.new }
 {
@@ -57,7 +57,7 @@ fn edges_on(versions: &[u32], edges: &[u32], d: u32, work: &mut [u8]) -> bool
     let mut changed = false;
     let mut k: u32 = 0;
     while k < d {
-        let r = edge_on_lem(versions, edges, work, EdgeNo(k));
+        let r = edge_on(versions, edges, work, EdgeNo(k));
         changed = changed | r;
         k += 1;
     }

@@ -1,0 +1,7 @@
+-- From what the two calls ensure.
+use borrow.Author.Rules.{rules}
+use Rattle.soundness.proofs.Sorts.{source_by}
+use Rattle.soundness.proofs.fits.source_fits.Goals as goal
+
+pub returns : goal.returns
+returns c = search source_by
