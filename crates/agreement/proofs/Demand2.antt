@@ -122,7 +122,7 @@ module _ (cap : Capacity) (w : Within cap) where
   take_in_taking c t rs y n [] ending a = taking_none n ending c t [] rs
   take_in_taking c t rs y n (r ∷ more) ending a =
       rw (checked-same cap w c t rs y r)
-      (go (refusal_of cap (worked rs) r) refl (λ h. take_in_taking _ _ (r ∷ rs) (ready_next cap w c t rs y r a.0 h) (n + 1) more ending a.1))
+      (go (refusal_of cap (worked rs) r) refl (λ h. take_in_taking (change_of (trail_of c t) r).counts (written t (change_of (trail_of c t) r).writes) (r ∷ rs) (ready_next cap w c t rs y r a.0 h) (n + 1) more ending a.1))
     where
       rest : Results
       rest = take_in (change_of (trail_of c t) r).counts (written t (change_of (trail_of c t) r).writes) (n + 1) more ending

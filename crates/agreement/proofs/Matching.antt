@@ -117,7 +117,7 @@ module _ (cap : Capacity) (w : Within cap) where
   take_in_ready c t rs y n [] ending a = y
   take_in_ready c t rs y n (r ∷ more) ending a =
       rw (checked-same c t rs y r)
-      (go (refusal_of cap (worked rs) r) refl (λ h. take_in_ready _ _ (r ∷ rs) (ready_next c t rs y r a.0 h) (n + 1) more ending a.1))
+      (go (refusal_of cap (worked rs) r) refl (λ h. take_in_ready (change_of (trail_of c t) r).counts (written t (change_of (trail_of c t) r).writes) (r ∷ rs) (ready_next c t rs y r a.0 h) (n + 1) more ending a.1))
     where
       rest : Results
       rest = take_in (change_of (trail_of c t) r).counts (written t (change_of (trail_of c t) r).writes) (n + 1) more ending

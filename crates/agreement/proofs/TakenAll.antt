@@ -10,7 +10,7 @@ use Rattle.rows.specs.declared.Counts.{Counts}
 use Rattle.record.specs.declared.Record.{Record}
 use Rattle.record.specs.Header.{header_checks}
 use Rattle.rules.specs.Trail.{Tables, Capacity, capacity_of, trail_of, fresh_counts}
-use Rattle.rules.specs.Record.{refusal_of}
+use Rattle.rules.specs.Record.{change_of, written, refusal_of}
 use Rattle.rules.specs.PlainList.{worked}
 use Rattle.rules.specs.Batch.{Results, contents_of, take_in, batch_checks, results_of, batch_of}
 use Rattle.soundness.specs.Taken.{SortFits}
@@ -40,7 +40,7 @@ module _ (cap : Capacity) (w : Within cap) where
   unfolding take_in
   take_in_all c t rs y n [] p = record { ready = y; checked = refl; taken = omega arith }
   take_in_all c t rs y n (r ∷ more) p =
-      let z = take_in_all _ _ (r ∷ rs) (ready_next cap w c t rs y r p.0.0 p.0.1) (n + 1) more p.1 in
+      let z = take_in_all (change_of (trail_of c t) r).counts (written t (change_of (trail_of c t) r).writes) (r ∷ rs) (ready_next cap w c t rs y r p.0.0 p.0.1) (n + 1) more p.1 in
       rw (checked-same cap w c t rs y r ∙ p.0.1) (record { ready = z.ready; checked = z.checked; taken = omega (arith, z.taken) })
 
 fresh_ready : (t : Tables) → Ready (capacity_of t) fresh_counts t []
