@@ -15,8 +15,7 @@ use rules::{BackwardAnswer, BatchAnswer, ForwardAnswer, LogAnswer};
 
 // Takes the records of a file in, in order until the first one refused, and updates the counts where the caller keeps them.
 // It needs 1.6 MB of stack.
-#[unsafe(no_mangle)]
-pub extern "C" fn slt_batch(
+pub fn slt_batch(
     counts: &mut Counts,
     entities: &mut [u32],
     versions: &mut [u32],
@@ -35,8 +34,7 @@ pub extern "C" fn slt_batch(
 
 // Marks what the start version of the entity at the time comes from. In a trail grown from a fresh one: what has a causal path to
 // the entity by the time.
-#[unsafe(no_mangle)]
-pub extern "C" fn slt_backward(
+pub fn slt_backward(
     counts: Counts,
     entities: &[u32],
     versions: &[u32],
@@ -58,8 +56,7 @@ pub extern "C" fn slt_backward(
 // Marks what the start version of any of the members at the time leads to, and gives the earliest of their intakes, 0 for an empty
 // list. In a trail grown from a fresh one: what a member reached by events accepted after its latest kept intake at or before the time,
 // by any event if it has none.
-#[unsafe(no_mangle)]
-pub extern "C" fn slt_forward(
+pub fn slt_forward(
     counts: Counts,
     entities: &[u32],
     versions: &[u32],
@@ -81,8 +78,7 @@ pub extern "C" fn slt_forward(
 }
 
 // Writes the kept log: an event file of the declarations, the kept events and the signatures.
-#[unsafe(no_mangle)]
-pub extern "C" fn slt_kept_log(
+pub fn slt_kept_log(
     counts: Counts,
     entities: &[u32],
     versions: &[u32],
