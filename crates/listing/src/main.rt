@@ -1,56 +1,33 @@
 // The listing program (document 01, "A worked trail"): takes the event file on standard input into a fresh trail and
 // prints the counts, the edges and the refusal. The text is rules' listing_of.
 #![tactic(auto)]
-use libc::{STDIN_FILENO, STDOUT_FILENO};
+
+ghost use Rattle.std.specs.Prelude.{◌≤◌, length, IfOk};
+
 use rows::{Counts, EdgeNo};
 use rules::BatchAnswer;
+use std::io;
+use std::io::Read;
 
-fn wide(x: u32) -> u64 {
-    x as u64
+fn print_counts(rt: &impl Print, c: Counts) -> io::Result<()> {
+    println!(rt;
+        "trail {} {} {} {} {}",
+        c.entities, c.versions, c.edges, c.accepted, c.last
+    )
 }
 
-fn print_word(word: &[u8]) {
-    io::write_all(STDOUT_FILENO, word);
-}
-
-// A number after a space.
-fn print_number(x: u32) {
-    io::write_all(STDOUT_FILENO, b" ");
-    io::print_decimal(STDOUT_FILENO, wide(x));
-}
-
-fn end_line() {
-    io::write_all(STDOUT_FILENO, b"\n");
-}
-
-fn print_counts(c: Counts) {
-    print_word(b"trail");
-    print_number(c.entities);
-    print_number(c.versions);
-    print_number(c.edges);
-    print_number(c.accepted);
-    print_number(c.last);
-    end_line();
-}
-
-fn print_edge(edges: &[u32], k: EdgeNo) {
+fn print_edge(rt: &impl Print, edges: &[u32], k: EdgeNo) -> io::Result<()> {
     let e = rows::edge_at(edges, k);
     let from = e.from;
     let to = e.to;
-    print_word(b"edge");
-    print_number(from.0);
-    print_number(to.0);
-    print_number(e.kind);
-    print_number(e.time);
-    end_line();
+    println!(rt; "edge {} {} {} {}", from.0, to.0, e.kind, e.time)
 }
 
-fn print_edges(edges: &[u32], n: u32) {
-    let mut k: u32 = 0;
-    while k < n {
-        print_edge(edges, EdgeNo(k));
-        k += 1;
+fn print_edges(rt: &impl Print, edges: &[u32], n: u32) -> io::Result<()> {
+    for k in 0..n {
+        print_edge(rt, edges, EdgeNo(k))?;
     }
+    Ok(())
 }
 
 // The record that a refusal names, from 1; 0 before any record: for 1, 2 and 16.
@@ -64,21 +41,18 @@ fn record_number(a: BatchAnswer) -> u32 {
 
 // The number after x, which is far from the greatest: a file here has fewer than 3,000 records.
 fn next(x: u32) -> u32 {
-    std::num::wrapping_add_u32(x, 1)
+    x.wrapping_add(1)
 }
 
-fn print_refusal(a: BatchAnswer) {
+fn print_refusal(rt: &impl Print, a: BatchAnswer) -> io::Result<()> {
     if a.refusal == 0 {
-        return;
+        return Ok(());
     }
-    print_word(b"refused");
-    print_number(a.refusal);
-    print_number(record_number(a));
-    end_line();
+    println!(rt; "refused {} {}", a.refusal, record_number(a))
 }
 
 // 2,730 rows in each table.
-fn list(file: &[u8]) {
+fn list(rt: &impl Print, file: &[u8]) -> io::Result<()> {
     let mut entities = [0u32; 5460];
     let mut versions = [0u32; 10920];
     let mut edges = [0u32; 16380];
@@ -91,19 +65,32 @@ fn list(file: &[u8]) {
     };
     let b = growth::batch(fresh, &mut entities, &mut versions, &mut edges, file);
     let c = b.counts;
-    print_counts(c);
-    print_edges(&edges, c.edges);
+    print_counts(rt, c)?;
+    print_edges(rt, &edges, c.edges)?;
     let a = b.answer;
-    print_refusal(a);
+    print_refusal(rt, a)
 }
 
-fn main() {
-    let mut input = [0u8; 32769];
-    let n = io::read_full(STDIN_FILENO, &mut input);
-    if 32768 < n {
-        print_word(b"too long");
-        end_line();
-        return;
+// Reads until the buffer is full or the input ends; how many bytes were read.
+fn read_full<R: Read>(input: &mut R, buf: &mut [u8]) -> io::Result<usize>
+    ensures { IfOk result (λ n. n ≤ length buf.old) }
+{
+    let mut n = 0usize;
+    while n < buf.len() {
+        let more = input.read(&mut buf[n..])?;
+        if more == 0 {
+            return Ok(n);
+        }
+        n += more;
     }
-    list(&input[..n]);
+    Ok(n)
+}
+
+fn main(rt: HostRuntime) -> io::Result<()> {
+    let mut input = [0u8; 32769];
+    let n = read_full(&mut rt.stdin(), &mut input)?;
+    if 32768 < n {
+        return println!(rt; "too long");
+    }
+    list(&rt, &input[..n])
 }
