@@ -9,8 +9,6 @@ use mathlib.Core.List.Memᴰ
 use mathlib.Core.List.{List, [], ◌∷◌, ◌++◌, Memᴰ}
 use Rattle.refusals.specs.declared.Checked.TheVariants.{Passed}
 use Rattle.rows.specs.declared.EntityRow.{EntityRow}
-use Rattle.record.specs.declared.Declaration.{Declaration}
-use Rattle.record.specs.declared.Event.{Event}
 use Rattle.record.specs.declared.Signature.{Signature}
 use Rattle.record.specs.declared.Record.{Record}
 use Rattle.record.specs.declared.Record.TheVariants as records

@@ -20,7 +20,6 @@ use Rattle.rules.specs.Backward.{trace_refusals, trace_checks, BackwardTrace}
 use Rattle.rules.specs.Start.{StartVersion, start_of}
 use Rattle.rules.specs.Members.{OfAny, IsEarliest}
 use Rattle.rules.specs.Forward.{ForwardMarks, MarkedFrom, IntakeFrom, ForwardTrace}
-use Rattle.rules.specs.Calls.{backward, forward}
 use Rattle.rules.proofs.Members.{of_any_iff, earliest-same}
 use Rattle.closure.specs.Arcs.{AllBelow}
 use Rattle.closure.specs.ByRelations.{HasMarkedVersion, Marking, IsBackwardTrace, IsForwardTrace}

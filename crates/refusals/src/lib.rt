@@ -1,5 +1,6 @@
 // The refusals of documents 01 and 02 by name. Their numbers stand in one definition, refusal_no.
 #![tactic(auto)]
+
 ghost use Rattle.std.specs.Prelude.{◌≡◌};
 ghost use Rattle.refusals.specs.Refusals.{refusal_no};
 

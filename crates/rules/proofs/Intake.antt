@@ -10,7 +10,7 @@ use mathlib.Core.List.{List, [], ◌∷◌, Memᴰ}
 use lib.Dec.{eqb, leb}
 use borrow.Author.Tests.{eqb-true, eqb-false, leb-true, leb-false}
 use Rattle.rules.specs.Trail.{Trail}
-use Rattle.rules.specs.Start.{Enters, IsIntake, greatest, start, times_into, greatest_or, intake_of}
+use Rattle.rules.specs.Start.{Enters, IsIntake, times_into, greatest_or, intake_of}
 
 -- whether a = s and x ≤ t, with the test that says so
 abbrev pub ByCase : ℕ → ℕ → ℕ → ℕ → Type 0

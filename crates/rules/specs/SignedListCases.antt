@@ -7,7 +7,7 @@ use Rattle.record.specs.declared.Kind.TheVariants.{Write}
 use Rattle.record.specs.declared.Event.{Event}
 use Rattle.record.specs.declared.Record.{Record}
 use Rattle.record.specs.declared.Record.TheVariants as records
-use Rattle.rules.specs.Trail.{tables, Capacity, capacity_of, counts}
+use Rattle.rules.specs.Trail.{Capacity, capacity_of, counts}
 use Rattle.rules.specs.History.{Item, kept, dropped, accepted, kept_events}
 use Rattle.rules.specs.PlainList.{worked, items_of, unsigned, tried_over, added, added_by, refused_by}
 use Rattle.rules.specs.Calls.{Call, batch, held_after, plain_after}

@@ -1,5 +1,6 @@
 // The types that the definitions of document 01 share with the calls. No code: the definitions are in specs/.
 #![tactic(auto)]
+
 use rows::EdgeNo;
 
 // Which edge a search found.

@@ -1,5 +1,6 @@
 // The test of sound tables (refusal 16): one pass over each table, that stops at the first row that fails.
 #![tactic(auto)]
+
 ghost use Rattle.std.specs.Prelude.{◌≡◌, true, ◌&&◌, [], eqb, ◌≤◌, ◌<◌, ◌%◌, length};
 ghost use Rattle.rows.specs.Rows.{entity_at, version_at, edge_at};
 ghost use Rattle.rows.specs.Capacity.{most_entities, version_capacity, edge_capacity};

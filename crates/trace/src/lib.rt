@@ -1,5 +1,6 @@
 // Backward and forward traces over the lent tables (document 01, "Traces"). Marks stand in the lent buffers alone.
 #![tactic(auto)]
+
 mod back;
 mod checks;
 mod intake;

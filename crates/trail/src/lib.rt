@@ -2,6 +2,7 @@
 // leaves in them what a definition of documents 01 and 02 makes of what was lent, where it refuses too. Beside that equation each
 // promise carries what demands 2 and 3 claim of the call, for every list of calls that leaves what it was lent.
 #![tactic(auto)]
+
 ghost use Rattle.std.specs.Prelude.{◌≡◌};
 ghost use Rattle.rules.specs.Trail.{tables};
 ghost use Rattle.rules.specs.Batch.{left, batch_of};

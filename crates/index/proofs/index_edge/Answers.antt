@@ -1,5 +1,4 @@
 -- The edge is linked, its way noted and its hint written.
-use borrow.Author.Rules.{rules}
 use Rattle.index.proofs.index_edge.Goals as goal
 
 pub link_edge-requires : goal.link_edge-requires
@@ -13,7 +12,7 @@ hint_edge-requires c = let p = c.requires in record { k_bound = (p.k_bound.0, p.
 
 pub returns : goal.returns
 returns c = record {
-    index = c.link_edge.ensures;
-    noted = c.note_edge.ensures;
-    hinted = c.hint_edge.ensures;
-    }
+  index = c.link_edge.ensures;
+  noted = c.note_edge.ensures;
+  hinted = c.hint_edge.ensures;
+}

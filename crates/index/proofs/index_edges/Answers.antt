@@ -1,11 +1,6 @@
 -- The loop keeps the index and the ways of the first k edges; k rises to n.
-use Prim.Native.Nat.{◌≤◌, ◌-◌}
 use native.Mathlib.Omega.{arith}
-use mathlib.Core.Path.{◌≡◌, refl}
-use lib.ListN.{length}
-use Rattle.rows.specs.Rows.{version_at, edge_at}
-use Rattle.index.specs.Index.{Indexed}
-use Rattle.index.specs.Ways.{Noted}
+use mathlib.Core.Path.{refl}
 use borrow.Author.Rules.{rules}
 use Rattle.index.proofs.Links.{indexed_none, head_room, indexed_end}
 use Rattle.index.proofs.Filter.{noted_none, noted_end}

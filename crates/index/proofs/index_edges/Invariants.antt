@@ -1,14 +1,10 @@
 -- The loop keeps the index and the ways of the first k edges; k rises to n.
 use Prim.Native.Nat.{◌≤◌, ◌-◌}
-use native.Mathlib.Omega.{arith}
-use mathlib.Core.Path.{◌≡◌, refl}
+use mathlib.Core.Path.{◌≡◌}
 use lib.ListN.{length}
 use Rattle.rows.specs.Rows.{version_at, edge_at}
 use Rattle.index.specs.Index.{Indexed}
 use Rattle.index.specs.Ways.{Noted}
-use borrow.Author.Rules.{rules}
-use Rattle.index.proofs.Links.{indexed_none, head_room, indexed_end}
-use Rattle.index.proofs.Filter.{noted_none, noted_end}
 use Rattle.index.proofs.index_edges.Given as goal
 
 abbrev pub invariant-loop-k : goal.invariant-loop-k
@@ -20,7 +16,5 @@ invariant-loop-k l =
     × Indexed (edge_at l.edges) l.k l.head l.next
     × Noted (edge_at l.edges) (version_at l.versions) l.k l.ways
 
-
 abbrev pub decreases-loop-k : goal.decreases-loop-k
 decreases-loop-k l = l.n - l.k
-

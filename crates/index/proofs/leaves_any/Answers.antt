@@ -1,5 +1,4 @@
 -- A version that an edge leaves is one whose link is not 0.
-use borrow.Author.Rules.{rules}
 use Rattle.index.proofs.Links.{leaves_head}
 use Rattle.index.proofs.leaves_any.Goals as goal
 

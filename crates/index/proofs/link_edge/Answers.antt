@@ -1,5 +1,4 @@
 -- The link is that of one edge more.
-use borrow.Author.Rules.{rules}
 use Rattle.index.proofs.Links.{indexed_next, from-room, within_most}
 use Rattle.index.proofs.link_edge.Goals as goal
 

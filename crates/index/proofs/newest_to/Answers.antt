@@ -1,7 +1,5 @@
 -- The search stands at a link whose edge leaves the version, and its answer is that for the edges below; links fall.
-use borrow.Author.Rules.{rules}
-use Rattle.rows.specs.Rows.{version_at, edge_at}
-use Rattle.index.proofs.Links.{Walk, walk_start, walk-found, walk_less, walk_next, walk_end}
+use Rattle.index.proofs.Links.{walk_start, walk-found, walk_less, walk_next, walk_end}
 use Rattle.index.proofs.newest_to.Goals as goal
 
 pub loop-link-init : goal.loop-link-init

@@ -1,6 +1,5 @@
 -- From what `entity_sort` and `declared_sort` ensure: twice a number below 4,096 and a bit take 16 bits.
 use native.Mathlib.Omega.{arith}
-use borrow.Author.Rules.{rules}
 use Rattle.soundness.proofs.Sorts.{declared_low}
 use Rattle.soundness.proofs.code.Goals as goal
 

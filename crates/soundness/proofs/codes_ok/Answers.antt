@@ -2,7 +2,6 @@
 use Rattle.rules.specs.Sound.{may_follow}
 use Rattle.soundness.specs.Parts.{sound_codes}
 use Rattle.soundness.proofs.Coded.{every_six}
-use borrow.Author.Rules.{rules}
 use Rattle.soundness.proofs.codes_ok.Goals as goal
 
 pub returns : goal.returns

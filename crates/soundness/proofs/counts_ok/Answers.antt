@@ -2,7 +2,6 @@
 use Rattle.rules.specs.Sound.{sound_counts}
 use Rattle.refusals.proofs.Checks.{by_right}
 use Rattle.soundness.proofs.Tests.{tests}
-use borrow.Author.Rules.{rules}
 use Rattle.soundness.proofs.counts_ok.Goals as goal
 
 pub returns-then-entity_capacity-c : goal.returns-then-entity_capacity-c

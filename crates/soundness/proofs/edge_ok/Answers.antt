@@ -1,7 +1,6 @@
 -- Each early return denies one test of `coded_edge`; the last test is `codes_ok`.
 use Rattle.soundness.specs.Parts.{coded_edge}
 use Rattle.soundness.proofs.Tests.{tests}
-use borrow.Author.Rules.{rules}
 use Rattle.soundness.proofs.edge_ok.Goals as goal
 
 pub returns-then-c-e : goal.returns-then-c-e

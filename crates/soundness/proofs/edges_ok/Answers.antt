@@ -1,12 +1,8 @@
 -- The invariant: every edge passed so far meets the test, `least` is the least time of the next one, and `sum` is the
 -- sum of their counts, at most 2^32 - 1 each. The measure is how many are left.
-use Prim.Native.Nat.{◌*◌, ◌≤◌, ◌-◌}
-use mathlib.Core.Path.{◌≡◌, refl}
-use mathlib.Core.Bool.{true}
-use Rattle.rows.specs.Rows.{edge_at}
+use mathlib.Core.Path.{refl}
 use Rattle.rows.specs.Capacity.{edge_capacity}
-use Rattle.rules.specs.Sound.{all_below, count_sum}
-use Rattle.soundness.specs.Parts.{least_time, coded_test}
+use Rattle.rules.specs.Sound.{all_below}
 use Rattle.soundness.proofs.Edges.{least_time_zero, time_next, edges_stop, edges_next, sum_read, edges_end}
 use Rattle.soundness.proofs.Sums.{sum_zero}
 use borrow.Author.Rules.{rules}

@@ -1,12 +1,7 @@
 -- The invariant: every entity passed so far meets the test. The measure is how many are left.
-use Prim.Native.Nat.{◌≤◌, ◌-◌}
-use mathlib.Core.Path.{◌≡◌, refl}
-use mathlib.Core.Bool.{true}
-use mathlib.Core.List.{[]}
-use Rattle.rules.specs.Trail.{trail_of, tables}
-use Rattle.rules.specs.Sound.{all_below, entity_test}
+use mathlib.Core.Path.{refl}
+use Rattle.rules.specs.Sound.{all_below}
 use Rattle.soundness.proofs.All.{all_stop, all_next, all_end}
-use borrow.Author.Rules.{rules}
 use native.Mathlib.Omega.{arith}
 use Rattle.soundness.proofs.entities_ok.Goals as goal
 

@@ -1,6 +1,5 @@
 -- The rows read are those that `entity_test` names.
 use Rattle.rules.specs.Sound.{entity_test}
-use borrow.Author.Rules.{rules}
 use Rattle.soundness.proofs.entity_test.Goals as goal
 
 pub returns : goal.returns

@@ -2,7 +2,6 @@
 use Rattle.rules.specs.Sound.{is_sound, entity_test}
 use Rattle.soundness.proofs.Tests.{ands}
 use Rattle.soundness.proofs.Ready.{rows_ready, rows_ready_most}
-use borrow.Author.Rules.{rules}
 use Rattle.soundness.proofs.is_sound.Goals as goal
 
 pub returns-then-not-counts_ok : goal.returns-then-not-counts_ok

@@ -2,7 +2,6 @@
 use Rattle.rules.specs.Sound.{sound_previous}
 use Rattle.soundness.proofs.Tests.{tests}
 use Rattle.soundness.proofs.Versions.{previous_apart, previous-same}
-use borrow.Author.Rules.{rules}
 use Rattle.soundness.proofs.previous_ok.Goals as goal
 
 pub returns-then-v-eq0 : goal.returns-then-v-eq0

@@ -2,7 +2,6 @@
 use Rattle.rules.specs.Sound.{is_sound, version_test}
 use Rattle.soundness.proofs.Tests.{ands}
 use Rattle.soundness.proofs.Ready.{versions_ready, codes_in, edges_in, coded_sound}
-use borrow.Author.Rules.{rules}
 use Rattle.soundness.proofs.rows_ok.Goals as goal
 
 pub versions_ok-requires : goal.versions_ok-requires

@@ -4,7 +4,6 @@ use mathlib.Core.Path.{refl}
 use Rattle.rules.specs.Sound.{every, all_below, is_object, is_subject, source_fits, target_fits}
 use Rattle.soundness.specs.Parts.{sorts_fit}
 use Rattle.soundness.proofs.Coded.{bits_fit, bits_fit_lem}
-use borrow.Author.Rules.{rules}
 use native.Mathlib.Omega.{arith}
 use Rattle.soundness.proofs.sorts_fit.Goals as goal
 

@@ -1,7 +1,6 @@
 -- Each early return denies one test of `sound_version`; the last test is `previous_ok`.
 use Rattle.rules.specs.Sound.{sound_version}
 use Rattle.soundness.proofs.Tests.{tests}
-use borrow.Author.Rules.{rules}
 use Rattle.soundness.proofs.version_ok.Goals as goal
 
 pub returns-then-c-v : goal.returns-then-c-v

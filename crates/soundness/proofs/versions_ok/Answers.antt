@@ -1,15 +1,10 @@
 -- The invariant: every version passed so far meets the test, and the code of its entity is written. The measure is how many are left.
-use Prim.Native.Nat.{◌≤◌, ◌-◌}
-use mathlib.Core.Path.{◌≡◌, refl}
-use mathlib.Core.Bool.{true, false≢true}
-use mathlib.Core.List.{[]}
-use lib.ListN.{length, length-set}
-use Rattle.rules.specs.Trail.{trail_of, tables}
-use Rattle.rules.specs.Sound.{all_below, version_test}
-use Rattle.soundness.specs.Parts.{Owners}
+use mathlib.Core.Path.{refl}
+use mathlib.Core.Bool.{false≢true}
+use lib.ListN.{length-set}
+use Rattle.rules.specs.Sound.{all_below}
 use Rattle.soundness.proofs.All.{all_end}
 use Rattle.soundness.proofs.Versions.{owner_low, versions_stop, versions_next, owners_next, owners_end}
-use borrow.Author.Rules.{rules}
 use native.Mathlib.Omega.{arith}
 use Rattle.soundness.proofs.versions_ok.Goals as goal
 

@@ -1,5 +1,4 @@
 -- `trace::backward` meets its contract. A refused call leaves the buffers as they are; another is `trace_back`.
-use borrow.Author.Rules.{rules}
 use Rattle.closure.proofs.Checked.{checked_passed}
 use Rattle.trace.proofs.MemberChecks.{one_checked}
 use Rattle.trace.proofs.BackAnswer.{backward_refused}

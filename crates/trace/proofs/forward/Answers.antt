@@ -1,5 +1,4 @@
 -- `trace::forward` meets its contract. A refused call leaves the buffers as they are; another is `trace_on`.
-use borrow.Author.Rules.{rules}
 use Rattle.closure.proofs.Checked.{checked_passed}
 use Rattle.trace.proofs.MemberChecks.{list_checked}
 use Rattle.trace.proofs.OnAnswer.{forward_refused}

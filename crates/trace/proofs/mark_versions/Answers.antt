@@ -1,5 +1,4 @@
 -- `trace::mark_versions` meets its contract. The start versions are marked anew, then closed.
-use borrow.Author.Rules.{rules}
 use Rattle.trace.proofs.OnAnswer.{versions_marked}
 use Rattle.trace.proofs.mark_versions.Goals as goal
 

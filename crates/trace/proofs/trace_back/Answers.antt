@@ -1,5 +1,4 @@
 -- `trace::trace_back` meets its contract. Sound tables make the marks, their entities and the count those of document 01.
-use borrow.Author.Rules.{rules}
 use Rattle.closure.proofs.Checked.{versions_fit, edges_fit, work_fits, marks-fit}
 use Rattle.trace.proofs.BackAnswer.{backward_passed}
 use Rattle.trace.proofs.Bytes.{part_count, whole_fits}

@@ -1,5 +1,4 @@
 -- `trace::trace_on` meets its contract. Sound tables make the marks, their entities, the count and the intake those of the documents.
-use borrow.Author.Rules.{rules}
 use Rattle.closure.proofs.Checked.{versions_fit, work_fits, marks-fit}
 use Rattle.trace.proofs.OnAnswer.{traceable, forward_passed}
 use Rattle.trace.proofs.Bytes.{part_count, whole_fits}

@@ -1,5 +1,4 @@
 -- The hint that is written is that of one edge more.
-use borrow.Author.Rules.{rules}
 use Rattle.index.proofs.Links.{within_most}
 use Rattle.index.proofs.Places.{hinted_next}
 use Rattle.index.proofs.hints.hint_edge.Goals as goal

@@ -1,5 +1,4 @@
 -- The edge that was found is the newest of its way.
-use borrow.Author.Rules.{rules}
 use Rattle.index.proofs.Places.{found_below, hinted_found}
 use Rattle.index.proofs.hints.hint_found.Goals as goal
 

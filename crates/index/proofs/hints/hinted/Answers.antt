@@ -1,6 +1,5 @@
 -- The edge of the hint goes the way, or the hint says nothing.
 use mathlib.Core.Path.{refl}
-use borrow.Author.Rules.{rules}
 use Rattle.index.proofs.Places.{hint_in, hint_target, hint_right}
 use Rattle.index.proofs.hints.hinted.Goals as goal
 

@@ -1,5 +1,4 @@
 -- One place is written.
-use borrow.Author.Rules.{rules}
 use Rattle.index.proofs.Places.{write_hint}
 use Rattle.index.proofs.hints.put_hint.Goals as goal
 

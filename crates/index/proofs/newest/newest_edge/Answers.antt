@@ -1,6 +1,5 @@
 -- A hint that finds an edge is right; where the way's bit is clear there is no edge; else the search is that of the definition.
 use mathlib.Core.Path.{sym}
-use borrow.Author.Rules.{rules}
 use Rattle.index.proofs.Links.{within_most}
 use Rattle.index.proofs.Filter.{noted_nothing}
 use Rattle.index.proofs.Places.{right_found, search_found}

@@ -1,5 +1,4 @@
 -- The bit's byte, shifted, and its lowest bit.
-use borrow.Author.Rules.{rules}
 use Rattle.index.proofs.Filter.{read_noted}
 use Rattle.index.proofs.ways.is_noted.Goals as goal
 

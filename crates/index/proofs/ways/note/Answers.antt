@@ -1,5 +1,4 @@
 -- One byte is written, with the bit's power of two or-ed in.
-use borrow.Author.Rules.{rules}
 use Rattle.index.proofs.Filter.{write_note}
 use Rattle.index.proofs.ways.note.Goals as goal
 

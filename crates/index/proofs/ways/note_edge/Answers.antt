@@ -1,5 +1,4 @@
 -- The bit that is set is that of one edge more.
-use borrow.Author.Rules.{rules}
 use Rattle.index.proofs.Filter.{noted_next}
 use Rattle.index.proofs.ways.note_edge.Goals as goal
 

@@ -1,5 +1,4 @@
 -- From what the two calls ensure.
-use borrow.Author.Rules.{rules}
 use Rattle.soundness.proofs.Sorts.{target_by}
 use Rattle.soundness.proofs.fits.target_fits.Goals as goal
 

@@ -1,5 +1,4 @@
 -- `trace::intake::earlier_start` meets its contract. The start counts where the version is marked.
-use borrow.Author.Rules.{rules}
 use Rattle.trace.proofs.EarliestStart.{earlier_start, no_start}
 use Rattle.trace.proofs.intake.earlier_start.Goals as goal
 

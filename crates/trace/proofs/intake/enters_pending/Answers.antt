@@ -1,5 +1,4 @@
 -- `trace::intake::enters_pending` meets its contract. The time is looked at where the version is marked.
-use borrow.Author.Rules.{rules}
 use Rattle.trace.proofs.EnteringLoop.{enters_time, enters-other}
 use Rattle.trace.proofs.intake.enters_pending.Goals as goal
 

@@ -1,5 +1,4 @@
 -- `trace::marks::marked` meets its contract. The test is made on the byte that was read.
-use borrow.Author.Rules.{rules}
 use Rattle.trace.proofs.Bytes.{marked_byte}
 use Rattle.trace.proofs.marks.marked.Goals as goal
 

@@ -1,5 +1,4 @@
 -- `trace::owners::mark_owner` meets its contract. The mark of the version decides.
-use borrow.Author.Rules.{rules}
 use Rattle.trace.proofs.EntityMarks.{owner_marked_lem}
 use Rattle.trace.proofs.owners.mark_owner.Goals as goal
 

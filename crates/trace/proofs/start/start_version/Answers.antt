@@ -1,5 +1,4 @@
 -- `trace::start::start_version` meets its contract. The search begins at the entity's latest version.
-use borrow.Author.Rules.{rules}
 use Rattle.trace.proofs.StartLoop.{start_found}
 use Rattle.trace.proofs.start.start_version.Goals as goal
 
