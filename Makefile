@@ -7,6 +7,8 @@ INSTALL = install
 
 version = $(shell sed -n 's/^\#define SLT_VERSION "\(.*\)"/\1/p' include/trail.h)
 archive = target/staticlib/libtrail.a
+listing = target/bin/listing
+sources = crates.txt $(shell find crates -name out -prune -o -type f -print)
 program = command/target/release/trail
 root = $(DESTDIR)$(PREFIX)
 
@@ -15,10 +17,17 @@ root = $(DESTDIR)$(PREFIX)
 build: $(archive)
 	@tools/cargo-command build --release --quiet
 
-$(archive): crates.txt $(shell find crates)
+$(archive): $(sources)
 	@echo "proves and builds the library, some minutes the first time (target/build.log)"
-	@mkdir -p target
-	@rt staticlib trail > target/build.log 2>&1 || { rm -f $@; tail target/build.log; exit 1; }
+	@mkdir -p $(dir $@)
+	@(cd crates/trail_c && rt lib) > target/build.log 2>&1 || { rm -f $@; tail target/build.log; exit 1; }
+	@cp crates/trail_c/out/libtrail_c.a $@
+
+# To build the program is to run it: once, without input. What it prints is looked at by rt ci and by tools/reference-test.
+$(listing): $(sources)
+	@mkdir -p $(dir $@)
+	@(cd crates/listing && rt run < /dev/null) > target/listing.log 2>&1 || { rm -f $@; tail target/listing.log; exit 1; }
+	@cp crates/listing/out/listing $@
 
 example: build
 	@tools/example

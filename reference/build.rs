@@ -23,7 +23,7 @@ fn archive_folder() -> PathBuf {
 fn link_archive(folder: &Path) {
     let archive = folder.join("libtrail.a");
     let name = archive.display();
-    assert!(archive.exists(), "{name} is missing: `rt staticlib trail`");
+    assert!(archive.exists(), "{name} is missing: `make target/staticlib/libtrail.a`");
     println!("cargo:rerun-if-changed={name}");
     println!("cargo:rustc-link-search=native={}", folder.display());
     println!("cargo:rustc-link-lib=static=trail");

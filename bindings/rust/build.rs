@@ -26,7 +26,7 @@ fn archive_folder() -> PathBuf {
         let named = PathBuf::from(named);
         assert!(
             archive(&named).exists(),
-            "TRAIL_ARCHIVE_DIR names {}, where there is no libtrail.a: `rt staticlib trail` makes it",
+            "TRAIL_ARCHIVE_DIR names {}, where there is no libtrail.a: `make target/staticlib/libtrail.a` makes it",
             named.display()
         );
         return named;
@@ -38,7 +38,7 @@ fn archive_folder() -> PathBuf {
         .flatten()
         .find(|folder| archive(folder).exists())
         .expect(
-            "libtrail.a is missing: `rt staticlib trail` makes it in target/staticlib; \
+            "libtrail.a is missing: `make target/staticlib/libtrail.a` makes it in target/staticlib; \
              or set TRAIL_ARCHIVE_DIR to its folder, or install the library so that pkg-config finds `trail`",
         )
 }
