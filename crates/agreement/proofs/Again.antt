@@ -92,8 +92,8 @@ module _ (F : Trail) (cap : Capacity) (w : Within cap) (room : EnoughRows cap F.
       unsigned = ap is_signed (sort_again _ p.target_in) ∙ declared-unsigned (F.entity e.target.0).sort;
       positive = p.positive;
       not_earlier = omega (arith, p.not_earlier, r.last);
-      accepted-left = omega (arith, p.accepted-left, r.accepted);
-      room-left = room_again d refl;
+      accepted_left = omega (arith, p.accepted_left, r.accepted);
+      room_left = room_again d refl;
     }
 
     step_again : KeptStep (worked R) (worked (records.Event e ∷ R)) e (made d)

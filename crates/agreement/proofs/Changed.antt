@@ -137,9 +137,9 @@ module _ (T : Trail) (f : RowFacts T) (cap : Capacity) where
     U = other T E V' D
 
     happened_alike : (e : Event) (d : Decision) → EventTaken cap T e d → Alike (changed T (happened T e d)) (changed U (happened U e d))
-    happened_alike e (Repeat k) p = record { counts = refl; rows = happened-same T E V' D s f e p.source_in p.target_in cap (Repeat k) p.room-left }
-    happened_alike e Widen p = record { counts = refl; rows = happened-same T E V' D s f e p.source_in p.target_in cap Widen p.room-left }
-    happened_alike e Renew p = record { counts = refl; rows = happened-same T E V' D s f e p.source_in p.target_in cap Renew p.room-left }
+    happened_alike e (Repeat k) p = record { counts = refl; rows = happened-same T E V' D s f e p.source_in p.target_in cap (Repeat k) p.room_left }
+    happened_alike e Widen p = record { counts = refl; rows = happened-same T E V' D s f e p.source_in p.target_in cap Widen p.room_left }
+    happened_alike e Renew p = record { counts = refl; rows = happened-same T E V' D s f e p.source_in p.target_in cap Renew p.room_left }
 
     other_alike : (r : Record) → refusal_of cap T r ≡ Passed → After r U
     unfolding refusal_of change_of

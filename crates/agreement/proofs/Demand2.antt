@@ -32,7 +32,7 @@ use Rattle.agreement.proofs.Matching.{matches, lent_alike, lent_rows, lent_ready
 use Rattle.agreement.proofs.Held.{known}
 use Rattle.agreement.proofs.Left.{left_by}
 use Rattle.agreement.proofs.Counted.{worked_stands}
-use Rattle.agreement.proofs.Signed.{taken-last, signed-held, no_more}
+use Rattle.agreement.proofs.Signed.{taken_last, signed-held, no_more}
 use Rattle.agreement.proofs.Unsigned.{untouched}
 
 -- Each event of the plain list counts as accepted
@@ -70,7 +70,7 @@ held_holds cs a t l =
       counts_are = λ k i. ap (λ (r : EdgeRow). r.count) (row k i) ∙ w.count_is k (inside k i);
       lasts_are = λ k i. ap (λ (r : EdgeRow). r.last) (row k i) ∙ w.last_is k (inside k i);
       sum_is = (lent_rows _ _ m t l).sum ∙ ap (λ (c : Counts). c.accepted) (sym s.counts) ∙ accepted_count (plain_after cs);
-      last_is = ap (λ (c : Counts). c.last) (sym s.counts) ∙ taken-last m.taken;
+      last_is = ap (λ (c : Counts). c.last) (sym s.counts) ∙ taken_last m.taken;
       signatures = λ x. signed-held m.taken s.rows x;
       no_more = no_more m.taken;
       untouched = untouched m.taken;

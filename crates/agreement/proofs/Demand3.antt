@@ -18,7 +18,7 @@ use Rattle.agreement.specs.Demand3.{BackwardAgrees, ForwardAgrees, TracesAgree, 
 use Rattle.agreement.proofs.Plain.{taken_fine}
 use Rattle.agreement.proofs.Matching.{Matches, matches, lent_sound}
 use Rattle.agreement.proofs.Held.{known}
-use Rattle.agreement.proofs.TraceAnswers.{backward-answer, forward-answer}
+use Rattle.agreement.proofs.TraceAnswers.{backward_answer, forward_answer}
 use Rattle.agreement.proofs.Left.{left_by}
 
 module _ (cs : List Call) (a : AllLent cs) (t : Tables) (l : Lent (held_after cs) t) where
@@ -33,11 +33,11 @@ module _ (cs : List Call) (a : AllLent cs) (t : Tables) (l : Lent (held_after cs
 
   backward-held : (x time : ℕ) (work marks : List ℕ) → BackwardAgrees (plain_after cs) x time work marks (backward_of c t x time work marks)
   backward-held x time work marks =
-      backward-answer c t (plain_after cs) (known _ _ m t l) s (sym m.alike.counts) x time work marks _ ((traces_by_relations.backward c t x time work marks _).0 refl)
+      backward_answer c t (plain_after cs) (known _ _ m t l) s (sym m.alike.counts) x time work marks _ ((traces_by_relations.backward c t x time work marks _).0 refl)
 
   forward-held : (us : List ℕ) (time : ℕ) (work marks : List ℕ) → ForwardAgrees (plain_after cs) us time work marks (forward_of c t us time work marks)
   forward-held us time work marks =
-      forward-answer c t (plain_after cs) (known _ _ m t l) s (sym m.alike.counts) us time work marks _ ((traces_by_relations.forward c t us time work marks _).0 refl)
+      forward_answer c t (plain_after cs) (known _ _ m t l) s (sym m.alike.counts) us time work marks _ ((traces_by_relations.forward c t us time work marks _).0 refl)
 
 traces_agree : (cs : List Call) → AllLent cs → TracesAgree cs
 traces_agree [] a = tt

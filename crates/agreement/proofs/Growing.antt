@@ -69,11 +69,11 @@ module _ (T : Trail) (e : Event) where
 
 pub keeps : {T T' : Trail} → Extends T T' → Keeps T T'
 keeps x = record {
-  owner-old = x.owner-same;
+  owner_old = x.owner_same;
   start_old = x.start_same;
-  previous-old = x.previous-same;
+  previous_old = x.previous_same;
   from_old = x.edges.from-same;
-  to-old = x.edges.to_same;
+  to_old = x.edges.to_same;
   kind_old = x.edges.kind_same;
   time_old = x.edges.time_same;
 }
@@ -85,9 +85,9 @@ declares T d = record {
   nd_is = refl;
   latest_new = by_declaration.new_latest T d;
   latest_old = λ y l. ap (λ (r : EntityRow). r.latest.0) (by_declaration.other_entity T d y l);
-  owner-new = by_declaration.new-owner T d;
+  owner_new = by_declaration.new-owner T d;
   start_new = ap (λ (r : VersionRow). r.start) (by_declaration.new_version T d);
-  previous-new = ap (λ (r : VersionRow). r.previous.0) (by_declaration.new_version T d);
+  previous_new = ap (λ (r : VersionRow). r.previous.0) (by_declaration.new_version T d);
   old = keeps (by_declaration.declared_extends T d);
 }
 
@@ -104,8 +104,8 @@ module _ (cap : Capacity) (T : Trail) (e : Event) (d : Decision) (p : EventTaken
     nd_is = add-one _;
     latest_target = refl;
     latest_other = λ y l n. refl;
-    from-new = ap (λ (r : EdgeRow). r.from.0) (put_same T.edge _ _);
-    to-new = ap (λ (r : EdgeRow). r.to.0) (put_same T.edge _ _);
+    from_new = ap (λ (r : EdgeRow). r.from.0) (put_same T.edge _ _);
+    to_new = ap (λ (r : EdgeRow). r.to.0) (put_same T.edge _ _);
     kind_new = ap (λ (r : EdgeRow). r.kind) (put_same T.edge _ _);
     time_new = ap (λ (r : EdgeRow). r.time) (put_same T.edge _ _);
     shape = inl (record { is = refl; nv_is = refl; unused = widen_unused T e h });
@@ -119,8 +119,8 @@ module _ (cap : Capacity) (T : Trail) (e : Event) (d : Decision) (p : EventTaken
     nd_is = add-one _;
     latest_target = by_renewal.new_latest cap T e d p;
     latest_other = λ y l n. ap (λ r. r.latest.0) (put_other T.entity _ _ y n);
-    from-new = ap (λ (r : EdgeRow). r.from.0) (put_same T.edge _ _);
-    to-new = ap (λ (r : EdgeRow). r.to.0) (put_same T.edge _ _);
+    from_new = ap (λ (r : EdgeRow). r.from.0) (put_same T.edge _ _);
+    to_new = ap (λ (r : EdgeRow). r.to.0) (put_same T.edge _ _);
     kind_new = ap (λ (r : EdgeRow). r.kind) (put_same T.edge _ _);
     time_new = ap (λ (r : EdgeRow). r.time) (put_same T.edge _ _);
     shape = inr (record {

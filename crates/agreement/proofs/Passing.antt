@@ -48,7 +48,7 @@ event-passes cap T e d p =
                 p.unsigned,
                 (
                   ne_eqb e.time 0 (λ q. omega (arith, p.positive)),
-                  (not_false_of _ (le-leb _ _ p.not_earlier), (lt-leb _ _ p.accepted-left, room-passes cap T.counts d p.room-left)),
+                  (not_false_of _ (le-leb _ _ p.not_earlier), (lt-leb _ _ p.accepted_left, room-passes cap T.counts d p.room_left)),
                 ),
               ),
             ),

@@ -50,10 +50,10 @@ module _ (cap : Capacity) (w : Within cap) (T : Trail) (hs : List Item) (f : Fin
     grown-event Widen q p = Grown.entered f.grown e (fit Widen p) _ (widens cap T e Widen p q)
     grown-event Renew q p = Grown.entered f.grown e (fit Renew p) _ (renews cap T e Renew p (latest_some p.target_in))
 
-    last-event : (d : Decision) → (changed T (happened T e d)).counts.last ≡ last_of (item_of d e ∷ hs)
-    last-event (Repeat k) = refl
-    last-event Widen = refl
-    last-event Renew = refl
+    last_event : (d : Decision) → (changed T (happened T e d)).counts.last ≡ last_of (item_of d e ∷ hs)
+    last_event (Repeat k) = refl
+    last_event Widen = refl
+    last_event Renew = refl
 
 -- one record more
 
@@ -78,7 +78,7 @@ fine_next cap w rs f (records.Event e) s h =
       rows = step_rows cap T (records.Event e) s h f.rows;
       counted = counts_next cap w T f.counted (records.Event e) h;
       grown = grown-event cap w T (items_of rs) f e d refl p;
-      last = last-event cap w T (items_of rs) f e d;
+      last = last_event cap w T (items_of rs) f e d;
     }
 fine_next cap w rs f (records.Signature g) s h = record {
   rows = step_rows cap (worked rs) (records.Signature g) s h f.rows;

@@ -74,7 +74,7 @@ sends_declared T T' hs g d ih u v h = go (d.entity_inv u h)
     old : u < ne T → EdgeTo T' u v → EdgeTo T u v
     old m x =
         let k = d.edge_inv (subst (λ a. EdgeIn T' a x.to x.time) (d.row.latest_old u m) x.edge) in
-        record { to = x.to; time = x.time; edge = k; owner = sym (d.owner-old _ ((inv g).to_in k)) ∙ x.owner }
+        record { to = x.to; time = x.time; edge = k; owner = sym (d.owner_old _ ((inv g).to_in k)) ∙ x.owner }
 
     new : u < ne T → EdgeTo T u v → EdgeTo T' u v
     new m x =
@@ -82,7 +82,7 @@ sends_declared T T' hs g d ih u v h = go (d.entity_inv u h)
           to = x.to;
           time = x.time;
           edge = subst (λ a. EdgeIn T' a x.to x.time) (sym (d.row.latest_old u m)) (d.edge-old x.edge);
-          owner = d.owner-old _ ((inv g).to_in x.edge) ∙ x.owner;
+          owner = d.owner_old _ ((inv g).to_in x.edge) ∙ x.owner;
         }
 
     within : All (Within (ne T) (last_of hs)) (recent u (kept_events hs))
@@ -107,7 +107,7 @@ sends_kept T T' hs e w g k ih u v h = go (kept_latest k u m)
       where
         by : NewEdge T e w (latest_of T u) x.to x.time → SentTo u v (e ∷ recent u (kept_events hs))
         by (inl o) =
-            let s = (ih u v m).0 (record { to = x.to; time = x.time; edge = o; owner = sym (k.now.owner-old _ (k.was.to_in o)) ∙ x.owner }) in
+            let s = (ih u v m).0 (record { to = x.to; time = x.time; edge = o; owner = sym (k.now.owner_old _ (k.was.to_in o)) ∙ x.owner }) in
             record { event = s.event; mem = Memᴰ.tail s.mem; source = s.source; target = s.target }
         by (inr c) =
             record {
@@ -135,7 +135,7 @@ sends_kept T T' hs e w g k ih u v h = go (kept_latest k u m)
               to = s.to;
               time = s.time;
               edge = subst (λ a. EdgeIn T' a s.to s.time) (sym q) (k.now.edge-old s.edge);
-              owner = k.now.owner-old _ (k.was.to_in s.edge) ∙ s.owner;
+              owner = k.now.owner_old _ (k.was.to_in s.edge) ∙ s.owner;
             }
 
     go : NewLatest T T' e w u → EdgeTo T' u v ↔ SentTo u v (recent u (e ∷ kept_events hs))

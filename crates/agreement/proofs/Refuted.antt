@@ -38,7 +38,7 @@ use Rattle.agreement.proofs.NoEdge.{no_edge_traced}
 use Rattle.agreement.proofs.LongerPaths.{montage_back, study_forward, montage_forward}
 use Rattle.agreement.proofs.OwnIntakes.{subject_not_marked}
 use Rattle.agreement.proofs.GainDropped.{time_6_kept}
-use Rattle.agreement.proofs.SignedAnswers.{signed-counts, report_row, report_signed, last_time_lem, study_row, some_signed, not_written, not_signed_again, signed-answer_is}
+use Rattle.agreement.proofs.SignedAnswers.{signed_counts, report_row, report_signed, last_time_lem, study_row, some_signed, not_written, not_signed_again, signed_answer_is}
 
 -- the plain list refuses no trace with 16
 not_16 : (rs : List Record) (xs work marks : List ℕ) → number_of (first_of (trace_refusals (worked rs).counts xs work marks)) ≡ refusal_no Unsound → ⊥
@@ -71,9 +71,9 @@ execves_first : length (stands_for execves 0) ≡ 1
 unfolding computed
 execves_first = refl
 
-execves-last : last_time (stands_for execves 1) ≡ 3
+execves_last : last_time (stands_for execves 1) ≡ 3
 unfolding computed
-execves-last = refl
+execves_last = refl
 
 -- for the read, the newest edge alone is tried
 execves_tries : tried_over execves ≡ tried_over [] + 1
@@ -90,30 +90,30 @@ pub refuted : Refuted
 refuted = record {
   backward_only_itself = λ work marks b z w a. let e = w 0 (omega arith) ((backward_is rows.p4 b a z).0 0 (omega arith)) in omega arith;
   forward_only_itself = λ work marks f z w a. let e = w 1 (omega arith) ((forward_is rows.p5 f a z).0 1 (omega arith)) in omega arith;
-  backward-same-marks = λ work marks b b' z z' s a a'.
+  backward_same_marks = λ work marks b b' z z' s a a'.
       omega (arith, s 0 (omega arith), (backward_is rows.p2 b a z).0 0 (omega arith), (backward_is rows.p4 b' a' z').0 0 (omega arith));
-  forward-same-marks = λ work marks f f' z z' s a a'.
+  forward_same_marks = λ work marks f f' z z' s a a'.
       omega (arith, s 0 (omega arith), (forward_is rows.p5 f a z).0 0 (omega arith), (forward_is rows.p8 f' a' z').0 0 (omega arith));
   forward_report_missed = λ work marks f z w a. omega (arith, (forward_is rows.p5 f a z).0 2 (omega arith));
   backward_montage_at_4 = λ work marks b z w a. omega (arith, (backward_is rows.p3_at_4 b a z).0 3 (omega arith));
   backward_montage_at_5 = λ work marks b z w a. omega (arith, (backward_is rows.p3_at_5 b a z).0 3 (omega arith));
-  forward-from-t_alone = λ work marks f z w a. let e = w 1 (omega arith) ((forward_is rows.p8 f a z).0 1 (omega arith)) in omega arith;
+  forward_from_t_alone = λ work marks f z w a. let e = w 1 (omega arith) ((forward_is rows.p8 f a z).0 1 (omega arith)) in omega arith;
   forward_study_at_4 = λ work marks f z w a. omega (arith, (forward_is rows.p6 f a z).0 0 (omega arith));
   backward_without_previous = λ work marks b z w a. omega (arith, montage_back b a z);
   forward_without_version_steps = λ work marks f z w a. omega (arith, study_forward f a z);
   forward_before_intake = λ work marks f z w a. montage_forward f a z w;
-  backward-other_byte = λ work marks b z w a. w.0 ((backward_is rows.p3_at_4 b a z).0 3 (omega arith));
-  forward-other_byte = λ work marks f z w a. w.0 ((forward_is rows.p6 f a z).0 0 (omega arith));
-  backward-other_count = λ work marks b z w a. w (backward_is rows.p4 b a z).1;
-  forward-other_count = λ work marks f z w a. w (forward_is rows.p5 f a z).1;
+  backward_other_byte = λ work marks b z w a. w.0 ((backward_is rows.p3_at_4 b a z).0 3 (omega arith));
+  forward_other_byte = λ work marks f z w a. w.0 ((forward_is rows.p6 f a z).0 0 (omega arith));
+  backward_other_count = λ work marks b z w a. w (backward_is rows.p4 b a z).1;
+  forward_other_count = λ work marks f z w a. w (forward_is rows.p5 f a z).1;
   intake_zero = λ work marks f z w a. omega (arith, (forward_is rows.p6 f a z).2);
   intake_free = λ work marks f z w a. w (forward_is rows.p6 f a z).2;
   intake_latest = λ work marks f z w a. omega (arith, (forward_is member_cases.two f a z).2);
-  intake_of-none = λ work marks f z w a. w (earliest_one (a.intake_is z) (IsEarliest.empty refl refl));
+  intake_of_none = λ work marks f z w a. w (earliest_one (a.intake_is z) (IsEarliest.empty refl refl));
   first_left_out = λ work marks f z w a. omega (arith, (forward_is member_cases.studies f a z).0 0 (omega arith));
-  last-left_out = λ work marks f z w a. omega (arith, (forward_is member_cases.studies f a z).0 3 (omega arith));
-  counts-added = λ work marks f z w a. omega (arith, (forward_is member_cases.studies f a z).1);
-  marks-of-none = λ work marks f z w a. Memᴰ.not-nil (((a.marks_are z).marked 0 (omega (arith, four))).0 w).1;
+  last_left_out = λ work marks f z w a. omega (arith, (forward_is member_cases.studies f a z).0 3 (omega arith));
+  counts_added = λ work marks f z w a. omega (arith, (forward_is member_cases.studies f a z).1);
+  marks_of_none = λ work marks f z w a. Memᴰ.not-nil (((a.marks_are z).marked 0 (omega (arith, four))).0 w).1;
   all_from_the_earliest = λ work marks f z w a. subject_not_marked f a z w;
   undeclared_taken = λ work marks f z w a. omega (arith, a.refusal, four_undeclared work marks);
   none_refused = λ work marks f l m w a. w (a.refusal ∙ not_refused [] work marks (λ x i. absurd (Memᴰ.not-nil i)) l m);
@@ -130,23 +130,23 @@ refuted = record {
   first_record_counted = λ c t w h. omega (arith, entities_are h);
   accepted_free = λ c t w h. w (accepted_are h);
   last_without_repeat = λ c t w h. omega (arith, last_is h);
-  edge-from_older = λ c t w h. omega (arith, ap (λ (r : EdgeRow). r.from.0) (edge_at_6 h));
+  edge_from_older = λ c t w h. omega (arith, ap (λ (r : EdgeRow). r.from.0) (edge_at_6 h));
   end_not_widened = λ c t w h. omega (arith, ap (λ (r : VersionRow). r.end) (report_version h));
   latest_not_new = λ c t w h. omega (arith, ap (λ (r : EntityRow). r.latest.0) (stager_row h));
   repeat_not_counted = λ c t w h. omega (arith, ap (λ (r : EdgeRow). r.count) (edge_at_1 h));
   repeat_counted_elsewhere = λ c t w h. omega (arith, ap (λ (r : EdgeRow). r.count) (edge_at_6 h));
   last_not_set = λ c t w h. omega (arith, ap (λ (r : EdgeRow). r.last) (edge_at_1 h));
-  last-of_the_trail = λ c t w h. omega (arith, ap (λ (r : EdgeRow). r.last) (edge_at_1 h));
+  last_of_the_trail = λ c t w h. omega (arith, ap (λ (r : EdgeRow). r.last) (edge_at_1 h));
   sum_free = λ c t w h. w (h.sum_is ∙ sym h.accepted_are ∙ accepted_are h);
   count_on_the_oldest = λ c t w h.
       let n = ap (λ (z : Counts). z.edges) h.counts in
       omega (arith, h.counts_are 0 (omega (arith, execves_edges)), execves_first);
-  last-of_the_kept = λ c t w h.
+  last_of_the_kept = λ c t w h.
       let n = ap (λ (z : Counts). z.edges) h.counts in
-      omega (arith, h.lasts_are 1 (omega (arith, execves_edges)), execves-last);
+      omega (arith, h.lasts_are 1 (omega (arith, execves_edges)), execves_last);
   all_refused = eleven 0 (λ q. omega arith);
   first_record_taken = eleven 1 (λ q. omega arith);
-  no_row-left = eleven 9 (λ q. omega arith);
+  no_row_left = eleven 9 (λ q. omega arith);
   full_before_repeat = λ a w g. omega (arith, ap (λ (z : BatchAnswer). z.taken) (answer_is 4 a g ∙ rows.p10));
   refused_for_nothing = λ a w g. w (ap (λ (z : BatchAnswer). z.refusal) (answer_is 8 a g ∙ rows.p1_answer));
   refused_for_another = λ a w g. w (ap (λ (z : BatchAnswer). z.refusal) (answer_is 3 a g ∙ rows.p11));
@@ -159,29 +159,29 @@ refuted = record {
   execves_tried = λ t file a w g. omega (arith, g.tried, execves_tries);
   gain_dropped = λ hs q w g. let k = time_6_kept hs q g in w k.0 k.1 k.2;
   log_always_refused = λ c t out k l w a. w (a.refusal ∙ log_not_refused out l);
-  log-of_no_event = λ b w a. omega (arith, a.same.edges, ap (λ (z : Counts). z.edges) rows.p1_counts);
+  log_of_no_event = λ b w a. omega (arith, a.same.edges, ap (λ (z : Counts). z.edges) rows.p1_counts);
   log_refused = λ b w a. w a.refusal;
-  log-taken_free = λ b w a.
+  log_taken_free = λ b w a.
       let x = ap (λ (z : Counts). z.entities) rows.p1_counts in
       let y = ap (λ (z : Counts). z.edges) rows.p1_counts in
       w (omega (arith, a.taken, unsigned-batch));
-  log-counts_kept = λ b w a. w (a.counts_one 0 (omega (arith, ap (λ (z : Counts). z.edges) rows.p1_counts)));
+  log_counts_kept = λ b w a. w (a.counts_one 0 (omega (arith, ap (λ (z : Counts). z.edges) rows.p1_counts)));
   log_lasts_kept = λ b w a. w (a.lasts_own 0 (omega (arith, ap (λ (z : Counts). z.edges) rows.p1_counts)));
-  log-other_trace = λ b w a. w (ap (λ (z : BackwardAnswer). z.count) (a.calls.backward-answer 2 6 (replicate 6 9) (replicate 5 9)) ∙ p4_count);
+  log_other_trace = λ b w a. w (ap (λ (z : BackwardAnswer). z.count) (a.calls.backward_answer 2 6 (replicate 6 9) (replicate 5 9)) ∙ p4_count);
   signature_lost = λ c t w h. omega (arith, report_signed h);
-  other-signed = λ c t w h. omega (arith, ap (λ (r : EntityRow). r.sort) (study_row h));
+  other_signed = λ c t w h. omega (arith, ap (λ (r : EntityRow). r.sort) (study_row h));
   latest_lost = λ c t w h. w (ap (λ (r : EntityRow). r.latest.0) (report_row h));
-  signature_accepted = λ c t w h. omega (arith, ap (λ (z : Counts). z.accepted) (signed-counts h));
+  signature_accepted = λ c t w h. omega (arith, ap (λ (z : Counts). z.accepted) (signed_counts h));
   last_moved = λ c t w h. w (last_time_lem h);
   written_after = not_written;
   signed_twice = not_signed_again;
-  signature_refused = λ a w g. w (ap (λ (z : BatchAnswer). z.refusal) (signed-answer_is [] a g ∙ signed_cases.signed-answer));
-  signature_not_taken = λ a w g. omega (arith, ap (λ (z : BatchAnswer). z.taken) (signed-answer_is [] a g ∙ signed_cases.signed-answer));
+  signature_refused = λ a w g. w (ap (λ (z : BatchAnswer). z.refusal) (signed_answer_is [] a g ∙ signed_cases.signed_answer));
+  signature_not_taken = λ a w g. omega (arith, ap (λ (z : BatchAnswer). z.taken) (signed_answer_is [] a g ∙ signed_cases.signed_answer));
   write_not_refused = λ a w g.
-      w (ap (λ (z : BatchAnswer). z.refusal) (signed-answer_is (event 2 1 2 8) a g ∙ ap (λ (b : Batched). b.answer) signed_cases.repeat_left));
+      w (ap (λ (z : BatchAnswer). z.refusal) (signed_answer_is (event 2 1 2 8) a g ∙ ap (λ (b : Batched). b.answer) signed_cases.repeat_left));
   log_signature_lost = λ c t h b w a.
-      let e = ap (λ (z : Counts). z.entities) (signed-counts h) in
+      let e = ap (λ (z : Counts). z.entities) (signed_counts h) in
       omega (arith, ap (λ (r : EntityRow). r.sort) (report_row h), a.same.sorts 2 (omega arith));
   log_signature_not_taken = λ c t h b w a.
-      omega (arith, a.taken, some_signed h, ap (λ (z : Counts). z.entities) (signed-counts h), ap (λ (z : Counts). z.edges) (signed-counts h));
+      omega (arith, a.taken, some_signed h, ap (λ (z : Counts). z.entities) (signed_counts h), ap (λ (z : Counts). z.edges) (signed_counts h));
 }

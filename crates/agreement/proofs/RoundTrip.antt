@@ -28,7 +28,7 @@ use Rattle.soundness.proofs.Facts.{sound_counts_lem}
 use Rattle.causality.specs.Statements.{Logged}
 use Rattle.kept_log.specs.LogRecords.{log_records, wholly}
 use Rattle.kept_log.proofs.LogRecords.{length-log_records, length-log_bytes}
-use Rattle.kept_log.proofs.ReadBack.{log-taken-header, log-taken_contents}
+use Rattle.kept_log.proofs.ReadBack.{log-taken-header, log_taken_contents}
 use Rattle.agreement.specs.RoundTrip.{TakenAgain, LogAgrees, RoundTrip}
 use Rattle.agreement.proofs.Matching.{Matches, matches, lent_alike, lent_rows, lent_sound, Ready, capacity_within}
 use Rattle.agreement.proofs.Held.{Known, known}
@@ -206,7 +206,7 @@ held_trip cs a t l out =
       refusal = log-refusal c t out s (plain_after cs) (lent_alike _ _ m t l);
       again = λ q small lent room.
           let p = log_passed c t out s q in
-          taken_again (held_after cs) (plain_after cs) m t l lent room _ (log-taken-header c t out p) (log-taken_contents c t out p small);
+          taken_again (held_after cs) (plain_after cs) m t l lent room _ (log-taken-header c t out p) (log_taken_contents c t out p small);
     }
 
 pub round_trip : RoundTrip

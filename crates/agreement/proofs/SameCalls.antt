@@ -57,30 +57,30 @@ module _ (c : Counts) (t : Tables) (d : Counts) (u : Tables) (s : SameTraces (tr
       )
 
   module _ (x time : ℕ) (work marks : List ℕ) where
-    backward-answer : (backward_of d u x time work marks).answer ≡ (backward_of c t x time work marks).answer
+    backward_answer : (backward_of d u x time work marks).answer ≡ (backward_of c t x time work marks).answer
     unfolding backward_of
-    backward-answer =
+    backward_answer =
         rw (checked-same (x ∷ []) work marks)
         (if_refused-same (λ (b : BackwardTrace). b.answer) (first_of (trace_checks c t (x ∷ []) work marks)) _ _ _
         (λ h. λ j. record { refusal = 0; count = ones (s.backward x time (passed_entity c t x work marks h) j) }))
 
-    backward-marks : (backward_of d u x time work marks).marks ≡ (backward_of c t x time work marks).marks
+    backward_marks : (backward_of d u x time work marks).marks ≡ (backward_of c t x time work marks).marks
     unfolding backward_of
-    backward-marks =
+    backward_marks =
         rw (checked-same (x ∷ []) work marks)
         (if_refused-same (λ (b : BackwardTrace). b.marks) (first_of (trace_checks c t (x ∷ []) work marks)) _ _ _ (λ h. ap (λ (m : List ℕ). overlaid m marks) (s.backward x time (passed_entity c t x work marks h))))
 
   module _ (us : List ℕ) (time : ℕ) (work marks : List ℕ) where
-    forward-answer : (forward_of d u us time work marks).answer ≡ (forward_of c t us time work marks).answer
+    forward_answer : (forward_of d u us time work marks).answer ≡ (forward_of c t us time work marks).answer
     unfolding forward_of
-    forward-answer =
+    forward_answer =
         rw (checked-same us work marks)
         (if_refused-same (λ (b : ForwardTrace). b.answer) (first_of (trace_checks c t us work marks)) _ _ _
         (λ h. λ j. record { refusal = 0; count = ones (s.forward us time (passed_entities c t us work marks h) j); intake = s.intake us time (passed_entities c t us work marks h) j }))
 
-    forward-marks : (forward_of d u us time work marks).marks ≡ (forward_of c t us time work marks).marks
+    forward_marks : (forward_of d u us time work marks).marks ≡ (forward_of c t us time work marks).marks
     unfolding forward_of
-    forward-marks =
+    forward_marks =
         rw (checked-same us work marks)
         (if_refused-same (λ (b : ForwardTrace). b.marks) (first_of (trace_checks c t us work marks)) _ _ _ (λ h. ap (λ (m : List ℕ). overlaid m marks) (s.forward us time (passed_entities c t us work marks h))))
 
@@ -112,9 +112,9 @@ module _ (c : Counts) (t : Tables) (d : Counts) (u : Tables) (s : SameTraces (tr
 
   pub same-calls : SameCalls c t d u
   same-calls = record {
-    backward-answer = backward-answer;
-    backward-marks = backward-marks;
-    forward-answer = forward-answer;
-    forward-marks = forward-marks;
+    backward_answer = backward_answer;
+    backward_marks = backward_marks;
+    forward_answer = forward_answer;
+    forward_marks = forward_marks;
     log = log-same;
   }

@@ -26,8 +26,8 @@ use Rattle.agreement.specs.Signed.{SignedAt, Enters, NoMore}
 use Rattle.agreement.proofs.Plain.{taken_fine, last_of-accepted}
 use Rattle.agreement.proofs.SignedStep.{signed_before, signed-after, signed_now, not_entered}
 
-pub taken-last : {rs : List Record} → Taken rs → (worked rs).counts.last ≡ last_time (accepted (items_of rs))
-taken-last {rs} t = (taken_fine t).last ∙ last_of-accepted (items_of rs)
+pub taken_last : {rs : List Record} → Taken rs → (worked rs).counts.last ≡ last_time (accepted (items_of rs))
+taken_last {rs} t = (taken_fine t).last ∙ last_of-accepted (items_of rs)
 
 -- the entity that a signature is of
 abbrev signed_of : Record → ℕ

@@ -29,21 +29,21 @@ use Rattle.agreement.proofs.Demand2.{demand2}
 use Rattle.agreement.proofs.Determined.{determined}
 
 module _ {c : Counts} {t : Tables} (h : Holds (signed_plain []) c t) where
-  pub signed-counts : c ≡ counts 4 5 4 7 7
-  signed-counts = h.counts ∙ signed_list_cases.plain-counts
+  pub signed_counts : c ≡ counts 4 5 4 7 7
+  signed_counts = h.counts ∙ signed_list_cases.plain_counts
 
   inside : (x : ℕ) → x ≤ 3 → entity_at t.entities x ≡ (worked (signed_plain [])).entity x
-  inside x l = h.entity_rows x (let e = ap (λ (z : Counts). z.entities) signed-counts in omega arith)
+  inside x l = h.entity_rows x (let e = ap (λ (z : Counts). z.entities) signed_counts in omega arith)
 
   pub report_row : entity_at t.entities 2 ≡ entity_row 2 2
   report_row = inside 2 (omega arith) ∙ ap (λ (l : List EntityRow). get_or l 2 (entity_row 0 0)) signed_list_cases.plain_entities
 
   -- the same by what the claim says of signatures, and of the last time
   pub report_signed : (entity_at t.entities 2).sort ≡ signed_sort
-  report_signed = signed-sort _ ((h.signatures 2).1 (subst (Memᴰ (signature_record 2)) (sym signed_list_cases.plain-signed) (Memᴰ.head refl))).1
+  report_signed = signed-sort _ ((h.signatures 2).1 (subst (Memᴰ (signature_record 2)) (sym signed_list_cases.plain_signed) (Memᴰ.head refl))).1
 
   pub last_time_lem : c.last ≡ 7
-  last_time_lem = h.last_is ∙ ap (λ (l : List (List Item)). last_time (accepted (get_or l 0 []))) signed_list_cases.plain-items
+  last_time_lem = h.last_is ∙ ap (λ (l : List (List Item)). last_time (accepted (get_or l 0 []))) signed_list_cases.plain_items
 
   pub study_row : entity_at t.entities 0 ≡ entity_row 0 0
   study_row = inside 0 (omega arith) ∙ ap (λ (l : List EntityRow). get_or l 0 (entity_row 0 0)) signed_list_cases.plain_entities
@@ -51,7 +51,7 @@ module _ {c : Counts} {t : Tables} (h : Holds (signed_plain []) c t) where
   -- at least the report is signed
   pub some_signed : 1 ≤ signed_below (entity_at t.entities) c.entities
   some_signed =
-      let e = ap (λ (z : Counts). z.entities) signed-counts in
+      let e = ap (λ (z : Counts). z.entities) signed_counts in
       let one : signed_one (entity_at t.entities 2) ≡ 1
       = ap (λ (b : Bool). cond b 1 0) (sort-signed (entity_at t.entities 2).sort (ap (λ (r : EntityRow). r.sort) report_row)) in
       omega (arith, sum_at signed_one (entity_at t.entities) c.entities 2 (omega arith))
@@ -62,7 +62,7 @@ not_written c t h = h.no_more (report_written ∷ []) worked_records 2 refl repo
 pub not_signed_again : (c : Counts) (t : Tables) → Holds (signature_record 2 ∷ worked_signed) c t → ⊥
 not_signed_again c t h = h.no_more (signature_record 2 ∷ []) worked_records 2 refl (signature_record 2) (Memᴰ.head refl) refl
 
-pub signed-answer_is : (bytes : List ℕ) (a : BatchAnswer) → Answered [] (room 8) (signed_file bytes) (plain_after (batch (room 8) (signed_file bytes) ∷ [])) a
+pub signed_answer_is : (bytes : List ℕ) (a : BatchAnswer) → Answered [] (room 8) (signed_file bytes) (plain_after (batch (room 8) (signed_file bytes) ∷ [])) a
     → a ≡ (batch_of fresh_counts (room 8) (signed_file bytes)).answer
-signed-answer_is bytes a g =
+signed_answer_is bytes a g =
     determined.answer [] (room 8) (signed_file bytes) _ a _ g (demand2.answer [] fresh_counts (room 8) (leaving.fresh (room 8)) (signed_file bytes))

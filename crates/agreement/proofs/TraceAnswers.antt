@@ -48,9 +48,9 @@ module _ (c : Counts) (t : Tables) (rs : List Record) (k : Known (trail_of c t) 
       counted = count_of_iff (λ x. (λ z. (in_plain ((g.entities.marked x).1 z).0, (h x).0 z), λ z. (h x).1 z.1)) g.counted;
     }
 
-  backward-marks : (x time : ℕ) (work marks : List ℕ) → x < c.entities → (b : BackwardTrace) → BackwardTraced T x time work marks b
+  backward_marks : (x time : ℕ) (work marks : List ℕ) → x < c.entities → (b : BackwardTrace) → BackwardTraced T x time work marks b
       → MarksAre (worked rs).counts.entities (λ y. PathBy (accepted (items_of rs)) time y x) b.marks b.answer.count
-  backward-marks x time work marks i b z = marks_are z.2 (λ y. Iff.trans marked_some (k.faithful.backward x time z.0 y i z.1))
+  backward_marks x time work marks i b z = marks_are z.2 (λ y. Iff.trans marked_some (k.faithful.backward x time z.0 y i z.1))
 
   module _ (us : List ℕ) (time : ℕ) (work marks : List ℕ) (h : AllBelow c.entities us) where
     -- the start version of a member, and what is marked from it
@@ -72,8 +72,8 @@ module _ (c : Counts) (t : Tables) (rs : List Record) (k : Known (trail_of c t) 
         (λ d. g.1 d ∙ q, λ e. g.0 (e ∙ sym q))
 
     module _ (f : ForwardTrace) (z : ForwardTraced T us time work marks f) where
-      forward-marks : MarksAre (worked rs).counts.entities (OfAny us (λ u. Reached u time (items_of rs))) f.marks f.answer.count
-      forward-marks =
+      forward_marks : MarksAre (worked rs).counts.entities (OfAny us (λ u. Reached u time (items_of rs))) f.marks f.answer.count
+      forward_marks =
           marks_are z.1
           (λ y. Iff.trans (owner_any T us (MarkedFrom T time) y)
           (of_any_iff us (λ u. HasMarkedVersion T (MarkedFrom T time u)) (λ u. Reached u time (items_of rs)) y (λ u m. reached_from u m y)))
@@ -97,16 +97,16 @@ module _ (c : Counts) (t : Tables) (rs : List Record) (k : Known (trail_of c t) 
       passed : n ≡ 0 → AllBelow c.entities xs
       passed q = passed_entities c t xs work marks (number_passed c t xs work marks (sym p ∙ q))
 
-    pub backward-answer : (x time : ℕ) (work marks : List ℕ) (b : BackwardTrace) → IsBackwardTrace c t x time work marks b → BackwardAgrees rs x time work marks b
-    backward-answer x time work marks b r = record {
+    pub backward_answer : (x time : ℕ) (work marks : List ℕ) (b : BackwardTrace) → IsBackwardTrace c t x time work marks b → BackwardAgrees rs x time work marks b
+    backward_answer x time work marks b r = record {
       refusal = rightly (x ∷ []) work marks r.refusal;
-      marks_are = λ q. backward-marks x time work marks (passed (x ∷ []) work marks r.refusal q x (Memᴰ.head refl)) b (r.traced q);
+      marks_are = λ q. backward_marks x time work marks (passed (x ∷ []) work marks r.refusal q x (Memᴰ.head refl)) b (r.traced q);
     }
 
-    pub forward-answer : (us : List ℕ) (time : ℕ) (work marks : List ℕ) (f : ForwardTrace) → IsForwardTrace c t us time work marks f → ForwardAgrees rs us time work marks f
-    forward-answer us time work marks f r = record {
+    pub forward_answer : (us : List ℕ) (time : ℕ) (work marks : List ℕ) (f : ForwardTrace) → IsForwardTrace c t us time work marks f → ForwardAgrees rs us time work marks f
+    forward_answer us time work marks f r = record {
       refusal = rightly us work marks r.refusal;
-      marks_are = λ q. forward-marks us time work marks (passed us work marks r.refusal q) f (r.traced q);
+      marks_are = λ q. forward_marks us time work marks (passed us work marks r.refusal q) f (r.traced q);
       intake_is = λ q. forward_intake us time work marks (passed us work marks r.refusal q) f (r.traced q);
       never_less = λ q. forward_never_less us time work marks (passed us work marks r.refusal q) f (r.traced q);
     }

@@ -18,7 +18,7 @@ use Rattle.closure.specs.Arcs.{AllBelow}
 use Rattle.closure.specs.ByRelations.{HasMarkedVersion}
 use Rattle.closure.proofs.StartVersion.{start_of_is}
 use Rattle.closure.proofs.Marks.{marks_ext}
-use Rattle.closure.proofs.Traces.{backward-marks, forward-marks, length-backward_entities, length-forward_entities, bits_backward_entities, bits_forward_entities}
+use Rattle.closure.proofs.Traces.{backward_marks, forward_marks, length-backward_entities, length-forward_entities, bits_backward_entities, bits_forward_entities}
 use Rattle.closure.proofs.Union.{owner_any}
 use Rattle.causality.proofs.Reach.{Reach, reach_path}
 use Rattle.causality.proofs.Parts.{up_to}
@@ -31,7 +31,7 @@ use Rattle.agreement.proofs.KeptOnly.{all_kept, accepted-all_kept, forward_kept,
 module _ {T : Trail} {n : ℕ} {hs : List Item} (k : Known T n hs) where
   backward_iff : (v t x : ℕ) → v < T.counts.entities → x < T.counts.entities → get_or (backward_entities T v t) x 0 ≡ 1 ↔ Reach (up_to t (accepted hs)) x v
   backward_iff v t x h l =
-      Iff.trans (backward-marks T k.rows v t x h l)
+      Iff.trans (backward_marks T k.rows v t x h l)
       (Iff.trans marked_some
       (Iff.trans (k.faithful.backward v t (start_of T v t) x h (start_of_is T k.rows k.few v t h))
       (Iff.symm (Iff.trans (reach_path (up_to t (accepted hs)) x v) (causal_by t (accepted hs) x v)))))
@@ -39,7 +39,7 @@ module _ {T : Trail} {n : ℕ} {hs : List Item} (k : Known T n hs) where
   forward_iff : (us : List ℕ) (t y : ℕ) → AllBelow T.counts.entities us → y < T.counts.entities
       → get_or (forward_entities T us t) y 0 ≡ 1 ↔ OfAny us (λ u. Reach (since u t hs) u) y
   forward_iff us t y h l =
-      Iff.trans (forward-marks T k.rows us t y h l)
+      Iff.trans (forward_marks T k.rows us t y h l)
       (Iff.trans (owner_any T us (λ u. ForwardMarks T (start_of T u t)) y) (of_any_iff us (λ u. HasMarkedVersion T (ForwardMarks T (start_of T u t))) (λ u. Reach (since u t hs) u) y one))
     where
       one : (u : ℕ) → Memᴰ u us → HasMarkedVersion T (ForwardMarks T (start_of T u t)) y ↔ Reach (since u t hs) u y

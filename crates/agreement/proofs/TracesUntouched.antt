@@ -12,7 +12,7 @@ use Rattle.rules.specs.Sound.{is_sound}
 use Rattle.rules.specs.PlainList.{worked, unsigned}
 use Rattle.rules.specs.Calls.{Call}
 use Rattle.closure.specs.Same.{SameButSorts}
-use Rattle.closure.proofs.Sorts.{no_sort-read}
+use Rattle.closure.proofs.Sorts.{no_sort_read}
 use Rattle.agreement.specs.Left.{LeftBy}
 use Rattle.agreement.specs.Demand2.{Holds}
 use Rattle.agreement.specs.Signed.{TracesUntouched}
@@ -51,5 +51,5 @@ sound {cs} {c} {t} l = left_by (λ k. is_sound (capacity_of t) (trail_of k t) �
 
 pub traces_untouched : TracesUntouched
 traces_untouched cs cs' c c' t t' l l' q =
-    no_sort-read c c' t t' (sound l) (sound l')
+    no_sort_read c c' t t' (sound l) (sound l')
     (both (subst (λ (rs : List Record). SameButSorts (worked rs) (trail_of c t)) q (held-unsigned (demand2.holds cs c t l))) (held-unsigned (demand2.holds cs' c' t' l')))

@@ -102,10 +102,10 @@ module _ (cap : Capacity) {rs : List Record} (t : Taken rs) (u : Taken (unsigned
         unsigned = none-signed rs u e.target.0 l;
         positive = p.positive;
         not_earlier = let q = ap (λ (k : Counts). k.last) c in omega (arith, p.not_earlier);
-        accepted-left = let q = ap (λ (k : Counts). k.accepted) c in omega (arith, p.accepted-left);
-        room-left =
+        accepted_left = let q = ap (λ (k : Counts). k.accepted) c in omega (arith, p.accepted_left);
+        room_left =
             subst (λ (d : Decision). RoomLeft cap T.counts d) (sym (decision_alike (alike rs) e))
-            (subst (λ (k : Counts). RoomLeft cap k (decision_of U e)) (sym c) p.room-left);
+            (subst (λ (k : Counts). RoomLeft cap k (decision_of U e)) (sym c) p.room_left);
       }
 
   event_still : refusal_of cap U (records.Event e) ≡ Passed → refusal_of cap T (records.Event e) ≡ Passed

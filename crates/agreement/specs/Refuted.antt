@@ -97,9 +97,9 @@ pub record Refuted : Type 0 where
   pub backward_only_itself : NoBackward worked_plain 2 6 (λ b. OnlyMarked 2 b.marks)
   pub forward_only_itself : NoForward worked_plain (3 ∷ []) 0 (λ f. OnlyMarked 3 f.marks)
   -- "or always the same marks": P2 against P4, P5 against P8
-  pub backward-same-marks : (work marks : List ℕ) (b b' : BackwardTrace) → b.answer.refusal ≡ 0 → b'.answer.refusal ≡ 0
+  pub backward_same_marks : (work marks : List ℕ) (b b' : BackwardTrace) → b.answer.refusal ≡ 0 → b'.answer.refusal ≡ 0
       → SameMarks 4 b.marks b'.marks → BackwardAgrees worked_plain 2 1 work marks b → BackwardAgrees worked_plain 2 6 work marks b' → ⊥
-  pub forward-same-marks : (work marks : List ℕ) (f f' : ForwardTrace) → f.answer.refusal ≡ 0 → f'.answer.refusal ≡ 0
+  pub forward_same_marks : (work marks : List ℕ) (f f' : ForwardTrace) → f.answer.refusal ≡ 0 → f'.answer.refusal ≡ 0
       → SameMarks 4 f.marks f'.marks → ForwardAgrees worked_plain (3 ∷ []) 0 work marks f → ForwardAgrees worked_plain (0 ∷ []) 4 work marks f' → ⊥
   -- "Taking an edge from an older version of u for a repeat: time 6 is dropped and 2 vanishes from P5."
   pub forward_report_missed : NoForward worked_plain (3 ∷ []) 0 (λ f. get_or f.marks 2 0 ≡ 0)
@@ -108,7 +108,7 @@ pub record Refuted : Type 0 where
   -- "Using all edges into the start version without looking at t: P3 again."
   pub backward_montage_at_5 : NoBackward worked_plain 2 5 (λ b. get_or b.marks 3 0 ≡ 1)
   -- events at t or later alone: the stager and the report vanish from P8
-  pub forward-from-t_alone : NoForward worked_plain (0 ∷ []) 4 (λ f. OnlyMarked 0 f.marks)
+  pub forward_from_t_alone : NoForward worked_plain (0 ∷ []) 4 (λ f. OnlyMarked 0 f.marks)
   -- edges followed against their direction: the study appears in P6
   pub forward_study_at_4 : NoForward worked_plain (1 ∷ []) 4 (λ f. get_or f.marks 0 0 ≡ 1)
   -- "its previous", and "going from a version to each one whose previous it is", left out: the edge from the study enters the stager's
@@ -118,22 +118,22 @@ pub record Refuted : Type 0 where
   -- "through events accepted after the intake alone": the stager, which the montage gave to before 8
   pub forward_before_intake : NoForward longer_plain (3 ∷ []) 8 (λ f. get_or f.marks 1 0 ≡ 1)
   -- "the mark buffer gets 1 .., else 0": no other byte
-  pub backward-other_byte : NoBackward worked_plain 2 4 (λ b. (get_or b.marks 3 0 ≡ 0 → ⊥) × (get_or b.marks 3 0 ≡ 1 → ⊥))
-  pub forward-other_byte : NoForward worked_plain (1 ∷ []) 4 (λ f. (get_or f.marks 0 0 ≡ 0 → ⊥) × (get_or f.marks 0 0 ≡ 1 → ⊥))
+  pub backward_other_byte : NoBackward worked_plain 2 4 (λ b. (get_or b.marks 3 0 ≡ 0 → ⊥) × (get_or b.marks 3 0 ≡ 1 → ⊥))
+  pub forward_other_byte : NoForward worked_plain (1 ∷ []) 4 (λ f. (get_or f.marks 0 0 ≡ 0 → ⊥) × (get_or f.marks 0 0 ≡ 1 → ⊥))
   -- "the count is the number of ones in the mark buffer"
-  pub backward-other_count : NoBackward worked_plain 2 6 (λ b. (b.answer.count ≡ 4 → ⊥))
-  pub forward-other_count : NoForward worked_plain (3 ∷ []) 0 (λ f. (f.answer.count ≡ 3 → ⊥))
+  pub backward_other_count : NoBackward worked_plain 2 6 (λ b. (b.answer.count ≡ 4 → ⊥))
+  pub forward_other_count : NoForward worked_plain (3 ∷ []) 0 (λ f. (f.answer.count ≡ 3 → ⊥))
   -- "intakes picked freely": 0, or any but that of P6
   pub intake_zero : NoForward worked_plain (1 ∷ []) 4 (λ f. f.answer.intake ≡ 0)
   pub intake_free : NoForward worked_plain (1 ∷ []) 4 (λ f. (f.answer.intake ≡ 1 → ⊥))
   -- document 02, 2.2: the latest intake of the stager and the report at 6; of an empty list any but 0
   pub intake_latest : NoForward worked_plain (1 ∷ 2 ∷ []) 6 (λ f. f.answer.intake ≡ 6)
-  pub intake_of-none : NoForward worked_plain [] 7 (λ f. (f.answer.intake ≡ 0 → ⊥))
+  pub intake_of_none : NoForward worked_plain [] 7 (λ f. (f.answer.intake ≡ 0 → ⊥))
   -- the first or the last member left out; the counts of the members added up; an entity marked for an empty list
   pub first_left_out : NoForward worked_plain (0 ∷ 3 ∷ []) 4 (λ f. get_or f.marks 0 0 ≡ 0)
-  pub last-left_out : NoForward worked_plain (0 ∷ 3 ∷ []) 4 (λ f. get_or f.marks 3 0 ≡ 0)
-  pub counts-added : NoForward worked_plain (0 ∷ 3 ∷ []) 4 (λ f. f.answer.count ≡ 6)
-  pub marks-of-none : NoForward worked_plain [] 7 (λ f. get_or f.marks 0 0 ≡ 1)
+  pub last_left_out : NoForward worked_plain (0 ∷ 3 ∷ []) 4 (λ f. get_or f.marks 3 0 ≡ 0)
+  pub counts_added : NoForward worked_plain (0 ∷ 3 ∷ []) 4 (λ f. f.answer.count ≡ 6)
+  pub marks_of_none : NoForward worked_plain [] 7 (λ f. get_or f.marks 0 0 ≡ 1)
   -- all members from the earliest intake: the subject, from which 0 takes in at 2
   pub all_from_the_earliest : NoForward written_plain (0 ∷ 2 ∷ []) 2 (λ f. get_or f.marks 1 0 ≡ 1)
   -- 5 for the first member only; an empty list refused though the buffers are long enough
@@ -165,7 +165,7 @@ pub record Refuted : Type 0 where
   pub accepted_free : NoTables (λ c t. (c.accepted ≡ 7 → ⊥))
   pub last_without_repeat : NoTables (λ c t. c.last ≡ 6)
   -- rows of P1: the edge at 6 from the stager's older version; the report's end as at 2; the stager's latest version not the new one
-  pub edge-from_older : NoTables (λ c t. (edge_at t.edges 3).from.0 ≡ 1)
+  pub edge_from_older : NoTables (λ c t. (edge_at t.edges 3).from.0 ≡ 1)
   pub end_not_widened : NoTables (λ c t. (version_at t.versions 2).end ≡ 2)
   pub latest_not_new : NoTables (λ c t. (entity_at t.entities 1).latest.0 ≡ 1)
   -- document 02, 2.1: the read at 3 counted by no edge, or by the edge at 6; the last time as when the edge was kept, or the trail's;
@@ -173,16 +173,16 @@ pub record Refuted : Type 0 where
   pub repeat_not_counted : NoTables (λ c t. (edge_at t.edges 0).count ≡ 1)
   pub repeat_counted_elsewhere : NoTables (λ c t. (edge_at t.edges 3).count ≡ 2)
   pub last_not_set : NoTables (λ c t. (edge_at t.edges 0).last ≡ 1)
-  pub last-of_the_trail : NoTables (λ c t. (edge_at t.edges 0).last ≡ 7)
+  pub last_of_the_trail : NoTables (λ c t. (edge_at t.edges 0).last ≡ 7)
   pub sum_free : NoTables (λ c t. (count_sum (edge_at t.edges) c.edges ≡ 7 → ⊥))
   -- two execves and a read that repeats both: the oldest edge counts it; the newest keeps the last time that it had
   pub count_on_the_oldest : (c : Counts) (t : Tables) → (edge_at t.edges 0).count ≡ 2 → Holds execves c t → ⊥
-  pub last-of_the_kept : (c : Counts) (t : Tables) → (edge_at t.edges 1).last ≡ 2 → Holds execves c t → ⊥
+  pub last_of_the_kept : (c : Counts) (t : Tables) → (edge_at t.edges 1).last ≡ 2 → Holds execves c t → ⊥
   -- "a call refusing all files"; the first record alone
   pub all_refused : NoAnswer 8 (λ a. a.taken ≡ 0)
   pub first_record_taken : NoAnswer 8 (λ a. a.taken ≡ 1)
   -- "no row left" while a row is left: the event at 6 refused with eight edge rows; P10, the event at 7 with four
-  pub no_row-left : NoAnswer 8 (λ a. a.taken ≡ 9)
+  pub no_row_left : NoAnswer 8 (λ a. a.taken ≡ 9)
   pub full_before_repeat : NoAnswer 4 (λ a. a.taken ≡ 10)
   -- another number than 0 where all is taken in, and than 12 in P11
   pub refused_for_nothing : NoAnswer 8 (λ a. a.refusal ≡ 0 → ⊥)
@@ -204,18 +204,18 @@ pub record Refuted : Type 0 where
   pub log_always_refused : (c : Counts) (t : Tables) (out : List ℕ) (k : KeptLog) → 104 ≤ length out → (k.answer.refusal ≡ 0 → ⊥)
       → LogAgrees (worked_calls 8) c t out k → ⊥
   -- the kept log without its events, or refused, or another number of its eight records taken in
-  pub log-of_no_event : (b : Batched) → b.counts.edges ≡ 0 → TakenAgainClaim b → ⊥
+  pub log_of_no_event : (b : Batched) → b.counts.edges ≡ 0 → TakenAgainClaim b → ⊥
   pub log_refused : (b : Batched) → (b.answer.refusal ≡ 0 → ⊥) → TakenAgainClaim b → ⊥
-  pub log-taken_free : (b : Batched) → (b.answer.taken ≡ 8 → ⊥) → TakenAgainClaim b → ⊥
+  pub log_taken_free : (b : Batched) → (b.answer.taken ≡ 8 → ⊥) → TakenAgainClaim b → ⊥
   -- a count that is not 1, a last time that is not the edge's own
-  pub log-counts_kept : (b : Batched) → ((edge_at b.tables.edges 0).count ≡ 1 → ⊥) → TakenAgainClaim b → ⊥
+  pub log_counts_kept : (b : Batched) → ((edge_at b.tables.edges 0).count ≡ 1 → ⊥) → TakenAgainClaim b → ⊥
   pub log_lasts_kept : (b : Batched) → ((edge_at b.tables.edges 0).last ≡ (edge_at b.tables.edges 0).time → ⊥) → TakenAgainClaim b → ⊥
   -- the trail that took the log in gives another count than 4 in P4
-  pub log-other_trace : (b : Batched) → ((backward_of b.counts b.tables 2 6 (replicate 6 9) (replicate 5 9)).answer.count ≡ 4 → ⊥)
+  pub log_other_trace : (b : Batched) → ((backward_of b.counts b.tables 2 6 (replicate 6 9) (replicate 5 9)).answer.count ≡ 4 → ⊥)
       → TakenAgainClaim b → ⊥
   -- document 02, 2.4: the report not signed, the study signed in its place; its latest version lost; the signature counted as accepted; the last time moved
   pub signature_lost : NoSigned (λ c t. (entity_at t.entities 2).sort ≡ 0)
-  pub other-signed : NoSigned (λ c t. (entity_at t.entities 0).sort ≡ 2)
+  pub other_signed : NoSigned (λ c t. (entity_at t.entities 0).sort ≡ 2)
   pub latest_lost : NoSigned (λ c t. ((entity_at t.entities 2).latest.0 ≡ 2 → ⊥))
   pub signature_accepted : NoSigned (λ c t. c.accepted ≡ 8)
   pub last_moved : NoSigned (λ c t. (c.last ≡ 7 → ⊥))

@@ -24,10 +24,10 @@ pub record SameTrail (T U : Trail) : Type 0 where
 
 -- the same traces and kept log, whatever the calls are lent besides: the numbers that they return, the mark buffer, the output
 pub record SameCalls (c : Counts) (t : Tables) (c' : Counts) (t' : Tables) : Type 0 where
-  pub backward-answer : (v time : ℕ) (work marks : List ℕ) → (backward_of c' t' v time work marks).answer ≡ (backward_of c t v time work marks).answer
-  pub backward-marks : (v time : ℕ) (work marks : List ℕ) → (backward_of c' t' v time work marks).marks ≡ (backward_of c t v time work marks).marks
-  pub forward-answer : (us : List ℕ) (time : ℕ) (work marks : List ℕ) → (forward_of c' t' us time work marks).answer ≡ (forward_of c t us time work marks).answer
-  pub forward-marks : (us : List ℕ) (time : ℕ) (work marks : List ℕ) → (forward_of c' t' us time work marks).marks ≡ (forward_of c t us time work marks).marks
+  pub backward_answer : (v time : ℕ) (work marks : List ℕ) → (backward_of c' t' v time work marks).answer ≡ (backward_of c t v time work marks).answer
+  pub backward_marks : (v time : ℕ) (work marks : List ℕ) → (backward_of c' t' v time work marks).marks ≡ (backward_of c t v time work marks).marks
+  pub forward_answer : (us : List ℕ) (time : ℕ) (work marks : List ℕ) → (forward_of c' t' us time work marks).answer ≡ (forward_of c t us time work marks).answer
+  pub forward_marks : (us : List ℕ) (time : ℕ) (work marks : List ℕ) → (forward_of c' t' us time work marks).marks ≡ (forward_of c t us time work marks).marks
   pub log : (out : List ℕ) → kept_log_of c' t' out ≡ kept_log_of c t out
 
 -- the batch takes in every record of the log, and the trail that it leaves is the same, but for counts and last times of edges

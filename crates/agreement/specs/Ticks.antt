@@ -39,7 +39,7 @@ pub record Ticks : Type 0 where
   pub pair_missed_forward : NoForward (plain_of read_write) (0 ∷ []) 0 (λ f. get_or f.marks 2 0 ≡ 0)
   -- it writes the report and then reads the study: "an event never follows one accepted after it"
   pub follows_one_after : NoBackward (plain_of write_read) 2 1 (λ b. get_or b.marks 0 0 ≡ 1)
-  pub follows_one_after-forward : NoForward (plain_of write_read) (0 ∷ []) 0 (λ f. get_or f.marks 2 0 ≡ 1)
+  pub follows_one_after_forward : NoForward (plain_of write_read) (0 ∷ []) 0 (λ f. get_or f.marks 2 0 ≡ 1)
   -- "Backward at t counts every event with time ≤ t", and none later
   pub before_the_tick : NoBackward (plain_of read_write) 2 0 (λ b. get_or b.marks 1 0 ≡ 1)
   -- "Forward starts just after the last kept intake with time ≤ t": not at the beginning of its tick, nor after its tick, nor after the first

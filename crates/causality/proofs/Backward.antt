@@ -16,7 +16,7 @@ use Rattle.causality.proofs.Growth.{inv, grown_ind, OnDropped, OnKept}
 use Rattle.causality.proofs.Reach.{Reach, All-imp, reach_refl, reach_part, reach_never}
 use Rattle.causality.proofs.Parts.{up_to, up_to_out, up_to_all, up_to_part}
 use Rattle.causality.proofs.Accepted.{grown_within}
-use Rattle.causality.proofs.Walk.{StartsAt, walk-last, starts_in, starts_back, walk-declared}
+use Rattle.causality.proofs.Walk.{StartsAt, walk_last, starts_in, starts_back, walk_declared}
 use Rattle.causality.proofs.ForwardMarks.{edge_at}
 use Rattle.causality.proofs.BackwardMarks.{bwd_in, bwd_fwd, fwd_bwd, bwd_more, behind_kept}
 use Rattle.causality.proofs.Ancestors.{ancestors}
@@ -36,7 +36,7 @@ backward_now {T} {hs} g t x y s l h r = rw (← q) (to, from)
     m = i.latest_in y h
 
     q : latest_of T y ≡ s
-    q = walk-last (omega (arith, i.start_in _ m)) r
+    q = walk_last (omega (arith, i.start_in _ m)) r
 
     to : Behind T (latest_of T y) t x → Reach (accepted hs) x y
     to b = (ancestors g x y h).0 (record { version = b.version; inside = bwd_in i m b.marked; owner = b.owner; leads = bwd_fwd i m b.marked })
@@ -62,14 +62,14 @@ module _ (T T' : Trail) (hs : List Item) (g : Grown T hs) (d : Declared T T') (i
       to : Behind T' s t x → Behind T s t x
       to b =
           let z = bwd_more (inv_declared (inv g) d) (omega (arith, d.row.nv_is)) (λ a b x c. d.edge_inv c) (λ a b c. d.prev_inv c) b.marked in
-          record { version = b.version; marked = z; owner = sym (d.owner-old _ (bwd_in (inv g) h z)) ∙ b.owner }
+          record { version = b.version; marked = z; owner = sym (d.owner_old _ (bwd_in (inv g) h z)) ∙ b.owner }
 
       from : Behind T s t x → Behind T' s t x
       from b =
           record {
             version = b.version;
             marked = bwd_more (inv g) h (λ a b x c. d.edge-old c) (λ a b c. d.prev_old c) b.marked;
-            owner = d.owner-old _ (bwd_in (inv g) h b.marked) ∙ b.owner;
+            owner = d.owner_old _ (bwd_in (inv g) h b.marked) ∙ b.owner;
           }
 
   -- the new entity
@@ -77,30 +77,30 @@ module _ (T T' : Trail) (hs : List Item) (g : Grown T hs) (d : Declared T T') (i
   alone (start z) = z
   alone (into_start k h q l z) = absurd (omega (arith, (inv g).to_in (d.edge_inv (edge_at k h (sym q)))))
   alone (into_other k z n h q r) = absurd (n (alone z))
-  alone (previous z n q) = absurd (n (ap (previous_of T') (alone z) ∙ d.row.previous-new))
+  alone (previous z n q) = absurd (n (ap (previous_of T') (alone z) ∙ d.row.previous_new))
 
   behind_new : (t s x : ℕ) → StartsAt T' (ne T) t s → Behind T' s t x ↔ Reach (up_to t (accepted hs)) x (ne T)
   behind_new t s x r = rw (← q) (to, from)
     where
       q : nv T ≡ s
-      q = walk-last (omega (arith, d.row.start_new)) (rw d.row.latest_new at r)
+      q = walk_last (omega (arith, d.row.start_new)) (rw d.row.latest_new at r)
 
       to : Behind T' (nv T) t x → Reach (up_to t (accepted hs)) x (ne T)
       to b =
-          subst (λ k. Reach (up_to t (accepted hs)) k (ne T)) (sym d.row.owner-new ∙ ap (owner_of T') (sym (alone b.marked)) ∙ b.owner)
+          subst (λ k. Reach (up_to t (accepted hs)) k (ne T)) (sym d.row.owner_new ∙ ap (owner_of T') (sym (alone b.marked)) ∙ b.owner)
           (reach_refl (up_to t (accepted hs)) (ne T))
 
       from : Reach (up_to t (accepted hs)) x (ne T) → Behind T' (nv T) t x
       from z =
           let e = reach_never (accepted hs) x (ne T) (All-imp (λ e w q. omega (arith, w.target_in)) (accepted hs) (grown_within g)) (reach_part (up_to_part t (accepted hs)) x (ne T) z) in
-          record { version = nv T; marked = start refl; owner = d.row.owner-new ∙ sym e }
+          record { version = nv T; marked = start refl; owner = d.row.owner_new ∙ sym e }
 
   backward-declared : Back T' hs
   backward-declared t x y s h r = go (d.entity_inv y h)
     where
       go : OldEntity T y → Behind T' s t x ↔ Reach (up_to t (accepted hs)) x y
       go (inl m) =
-          let z = walk-declared (inv g) d ((inv g).latest_in y m) (rw (d.row.latest_old y m) at r) in
+          let z = walk_declared (inv g) d ((inv g).latest_in y m) (rw (d.row.latest_old y m) at r) in
           Iff.trans (behind_declared t s x (starts_in (inv g) m z)) (ih t x y s m z)
       go (inr q) = rw q (behind_new t s x (rw q at r))
 

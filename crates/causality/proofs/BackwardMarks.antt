@@ -108,12 +108,12 @@ module _ {T T' : Trail} {last : ℕ} {e : Event} {w : ℕ} (k : Kept T T' last e
   behind_kept {x} = (to, from)
     where
       to : EntityMarked T' (BackwardMarks T' s t) x → EntityMarked T (BackwardMarks T s t) x
-      to b = let z = bwd_kept b.marked in record { version = b.version; marked = z; owner = sym (k.now.owner-old _ (bwd_in k.was m z)) ∙ b.owner }
+      to b = let z = bwd_kept b.marked in record { version = b.version; marked = z; owner = sym (k.now.owner_old _ (bwd_in k.was m z)) ∙ b.owner }
 
       from : EntityMarked T (BackwardMarks T s t) x → EntityMarked T' (BackwardMarks T' s t) x
       from b =
           record {
             version = b.version;
             marked = bwd_more k.was m (λ a b x c. k.now.edge-old c) (λ a b c. k.now.prev_old c) b.marked;
-            owner = k.now.owner-old _ (bwd_in k.was m b.marked) ∙ b.owner;
+            owner = k.now.owner_old _ (bwd_in k.was m b.marked) ∙ b.owner;
           }

@@ -29,7 +29,7 @@ module _ {T T' : Trail} (o : Keeps T T') where
         number = h.number;
         inside = omega (arith, h.inside);
         from = o.from_old _ h.inside ∙ h.from;
-        to = o.to-old _ h.inside ∙ h.to;
+        to = o.to_old _ h.inside ∙ h.to;
         time = o.time_old _ h.inside ∙ h.time;
       }
 
@@ -39,7 +39,7 @@ module _ {T T' : Trail} (o : Keeps T T') where
         number = h.number;
         inside = l;
         from = sym (o.from_old _ l) ∙ h.from;
-        to = sym (o.to-old _ l) ∙ h.to;
+        to = sym (o.to_old _ l) ∙ h.to;
         time = sym (o.time_old _ l) ∙ h.time;
       }
 
@@ -47,17 +47,17 @@ module _ {T T' : Trail} (o : Keeps T T') where
   prev_stands m h =
       record {
         inside = omega (arith, h.inside);
-        some = λ q. h.some (sym (o.previous-old _ h.inside) ∙ q);
-        is = o.previous-old _ h.inside ∙ h.is;
+        some = λ q. h.some (sym (o.previous_old _ h.inside) ∙ q);
+        is = o.previous_old _ h.inside ∙ h.is;
       }
 
   pub prev_stood : {a b : ℕ} (h : PrevIn T' a b) → b < nv T → PrevIn T a b
-  prev_stood h l = record { inside = l; some = λ q. h.some (o.previous-old _ l ∙ q); is = sym (o.previous-old _ l) ∙ h.is }
+  prev_stood h l = record { inside = l; some = λ q. h.some (o.previous_old _ l ∙ q); is = sym (o.previous_old _ l) ∙ h.is }
 
 -- a declaration
 pub record Declared (T T' : Trail) : Type 0 where
   pub row : Declares T T'
-  pub owner-old : (a : ℕ) → a < nv T → owner_of T' a ≡ owner_of T a
+  pub owner_old : (a : ℕ) → a < nv T → owner_of T' a ≡ owner_of T a
   pub start_old : (a : ℕ) → a < nv T → start_time T' a ≡ start_time T a
   pub edge-old : {a b t : ℕ} → EdgeIn T a b t → EdgeIn T' a b t
   pub edge_inv : {a b t : ℕ} → EdgeIn T' a b t → EdgeIn T a b t
@@ -70,7 +70,7 @@ pub declared_facts : {T T' : Trail} → Declares T T' → Declared T T'
 declared_facts {T} {T'} d =
     record {
       row = d;
-      owner-old = d.old.owner-old;
+      owner_old = d.old.owner_old;
       start_old = d.old.start_old;
       edge-old = edge_stands d.old (omega (arith, d.nd_is));
       edge_inv = λ h. edge_stood d.old h (omega (arith, h.inside, d.nd_is));
@@ -82,4 +82,4 @@ declared_facts {T} {T'} d =
   where
     back : {a b : ℕ} → PrevIn T' a b → OldVersion T b → PrevIn T a b
     back h (inl k) = prev_stood d.old h k
-    back {b = b} h (inr q) = absurd (h.some (rw q d.previous-new))
+    back {b = b} h (inr q) = absurd (h.some (rw q d.previous_new))

@@ -23,7 +23,7 @@ pub record Entered (T T' : Trail) (e : Event) (w : ℕ) : Type 0 where
   pub w_in : w < nv T'
   pub owner-w : owner_of T' w ≡ e.target.0
   pub version_inv : (a : ℕ) → a < nv T' → NewVersion T w a
-  pub owner-old : (a : ℕ) → a < nv T → owner_of T' a ≡ owner_of T a
+  pub owner_old : (a : ℕ) → a < nv T → owner_of T' a ≡ owner_of T a
   pub start_old : (a : ℕ) → a < nv T → start_time T' a ≡ start_time T a
   pub edge-new : EdgeIn T' (latest_of T e.source.0) w e.time
   pub edge-old : {a b t : ℕ} → EdgeIn T a b t → EdgeIn T' a b t
@@ -37,16 +37,16 @@ nv_grows (inr s) = omega (arith, s.nv_is)
 
 -- the target's latest version was in use, and its own
 module _ {T T' : Trail} {e : Event} {w : ℕ} (r : AddsEdge T T' e w) (lt : latest_of T e.target.0 < nv T) (is : owner_of T (latest_of T e.target.0) ≡ e.target.0) where
-  edge-last : {a b t : ℕ} → (h : EdgeIn T' a b t) → (h.number < nd T) ⊎ (h.number ≡ nd T) → NewEdge T e w a b t
-  edge-last h (inl l) = inl (edge_stood r.old h l)
-  edge-last h (inr q) = inr (sym h.from ∙ rw q r.from-new, sym h.to ∙ rw q r.to-new, sym h.time ∙ rw q r.time_new)
+  edge_last : {a b t : ℕ} → (h : EdgeIn T' a b t) → (h.number < nd T) ⊎ (h.number ≡ nd T) → NewEdge T e w a b t
+  edge_last h (inl l) = inl (edge_stood r.old h l)
+  edge_last h (inr q) = inr (sym h.from ∙ rw q r.from_new, sym h.to ∙ rw q r.to_new, sym h.time ∙ rw q r.time_new)
 
   w_inside : Wide T T' e w ⊎ New T T' e w → w < nv T'
   w_inside (inl s) = omega (arith, s.is, s.nv_is)
   w_inside (inr s) = omega (arith, s.is, s.nv_is)
 
   w-owner : Wide T T' e w ⊎ New T T' e w → owner_of T' w ≡ e.target.0
-  w-owner (inl s) = rw s.is (r.old.owner-old _ lt ∙ is)
+  w-owner (inl s) = rw s.is (r.old.owner_old _ lt ∙ is)
   w-owner (inr s) = s.owner
 
   version_last : (a : ℕ) → a < nv T' → Wide T T' e w ⊎ New T T' e w → NewVersion T w a
@@ -73,11 +73,11 @@ module _ {T T' : Trail} {e : Event} {w : ℕ} (r : AddsEdge T T' e w) (lt : late
         w_in = w_inside r.shape;
         owner-w = w-owner r.shape;
         version_inv = λ a h. version_last a h r.shape;
-        owner-old = r.old.owner-old;
+        owner_old = r.old.owner_old;
         start_old = r.old.start_old;
-        edge-new = record { number = nd T; inside = omega (arith, r.nd_is); from = r.from-new; to = r.to-new; time = r.time_new };
+        edge-new = record { number = nd T; inside = omega (arith, r.nd_is); from = r.from_new; to = r.to_new; time = r.time_new };
         edge-old = edge_stands r.old (omega (arith, r.nd_is));
-        edge_inv = λ h. edge-last h (below _ _ _ r.nd_is h.inside);
+        edge_inv = λ h. edge_last h (below _ _ _ r.nd_is h.inside);
         prev_old = prev_stands r.old (nv_grows r.shape);
         prev_inv = λ h. prev_last h r.shape;
       }

@@ -18,7 +18,7 @@ use Rattle.causality.proofs.Growth.{inv, OnDropped}
 use Rattle.causality.proofs.Reach.{Reach, All-imp, reach_refl, reach_part, reach_stuck}
 use Rattle.causality.proofs.Parts.{IntoCase, into_cases, since_part}
 use Rattle.causality.proofs.Accepted.{grown_within, reach_within}
-use Rattle.causality.proofs.Walk.{StartsAt, walk-last, starts_in, starts_back, walk-declared}
+use Rattle.causality.proofs.Walk.{StartsAt, walk_last, starts_in, starts_back, walk_declared}
 use Rattle.causality.proofs.ForwardMarks.{along, fwd_trans, fwd_in, fwd_sink, fwd_declared, fwd_undeclared, Gain, fwd_kept, kept_more, latest_up}
 use Rattle.causality.proofs.Upward.{leads_up}
 
@@ -34,7 +34,7 @@ module _ (T T' : Trail) (hs : List Item) (g : Grown T hs) (d : Declared T T') (i
   claim_old u t s y h o r = go o
     where
       z : StartsAt T u t s
-      z = walk-declared (inv g) d ((inv g).latest_in u h) (rw (d.row.latest_old u h) at r)
+      z = walk_declared (inv g) d ((inv g).latest_in u h) (rw (d.row.latest_old u h) at r)
 
       go : OldEntity T y → ForwardMarks T' s (latest_of T' y) ↔ Reach (since u t hs) u y
       go (inl m) = let o = ih u t s y h m z in rw (d.row.latest_old y m) (λ x. o.0 (fwd_undeclared d x), λ x. fwd_declared d (o.1 x))
@@ -49,7 +49,7 @@ module _ (T T' : Trail) (hs : List Item) (g : Grown T hs) (d : Declared T T') (i
   claim_new t s y o r = rw (← q) (to o, from)
     where
       q : nv T ≡ s
-      q = walk-last (omega (arith, d.row.start_new)) (rw d.row.latest_new at r)
+      q = walk_last (omega (arith, d.row.start_new)) (rw d.row.latest_new at r)
 
       sink : {b : ℕ} → ForwardMarks T' (nv T) b → b ≡ nv T
       sink = fwd_sink (λ c t k. omega (arith, (inv g).from_in (d.edge_inv k))) (λ c p. let o = d.prev_inv p in omega (arith, (inv g).prev_less o, o.inside))
@@ -113,7 +113,7 @@ module _ (T T' : Trail) (hs : List Item) (e : Event) (w : ℕ) (k : Kept T T' (l
   claim_kept_new t s y l m r = rw (← q) (to (kept_latest k y m), from)
     where
       q : w ≡ s
-      q = walk-last (omega (arith, (inv_kept k).start_in w k.now.w_in)) (rw k.now.row.latest_target at r)
+      q = walk_last (omega (arith, (inv_kept k).start_in w k.now.w_in)) (rw k.now.row.latest_target at r)
 
       sink : {b : ℕ} → ForwardMarks T' w b → b ≡ w
       sink = fwd_sink (λ c t h. w_unused k h) (λ c p. w_top k p)

@@ -18,7 +18,7 @@ use Rattle.causality.proofs.Growth.{inv, grown_ind, OnDeclared, OnKept}
 use Rattle.causality.proofs.Reach.{All-imp}
 use Rattle.causality.proofs.Parts.{IntoCase, into_cases, intake_time-none}
 use Rattle.causality.proofs.Accepted.{grown_within}
-use Rattle.causality.proofs.Walk.{StartsAt, walk-last, walk-declared, starts_in, starts_back}
+use Rattle.causality.proofs.Walk.{StartsAt, walk_last, walk_declared, starts_in, starts_back}
 
 -- an edge that enters s by t, as an edge between versions, and the other way round
 enters-edge : {T : Trail} {s t k : ℕ} → Enters T s t k → EdgeIn T (T.edge k).from.0 s (T.edge k).time
@@ -48,10 +48,10 @@ timed_declared T T' hs g d ih u t s h r = go (d.entity_inv u h)
   where
     go : OldEntity T u → IsIntake T' s t (intake_time u t hs)
     go (inl m) =
-        let z = walk-declared (inv g) d ((inv g).latest_in u m) (rw (d.row.latest_old u m) at r) in
+        let z = walk_declared (inv g) d ((inv g).latest_in u m) (rw (d.row.latest_old u m) at r) in
         stays (d.start_old s (starts_in (inv g) m z)) (λ a x k. d.edge-old k) (λ a x k l. d.edge_inv k) (ih u t s m z)
     go (inr q) =
-        let y : nv T ≡ s = walk-last (omega (arith, d.row.start_new)) (rw (q, d.row.latest_new) at r) in
+        let y : nv T ≡ s = walk_last (omega (arith, d.row.start_new)) (rw (q, d.row.latest_new) at r) in
         rw (q, intake_time-none (ne T) t hs (All-imp (λ e w q _. omega (arith, w.target_in)) (accepted hs) (grown_within g)), ← y)
         (IsIntake.start (λ k e. omega (arith, (inv g).to_in (d.edge_inv (enters-edge e)))) (sym d.row.start_new))
 
@@ -66,7 +66,7 @@ timed_kept T T' hs e w g k ih u t s h r = go (into_cases u t e)
     now : e.target.0 ≡ u → e.time ≤ t → IsIntake T' s t e.time
     now q l =
         let y : latest_of T' u ≡ w = ap (latest_of T') (sym q) ∙ k.now.row.latest_target in
-        let o : w ≡ s = walk-last (omega (arith, (inv_kept k).start_in w k.now.w_in)) (rw y at r) in
+        let o : w ≡ s = walk_last (omega (arith, (inv_kept k).start_in w k.now.w_in)) (rw y at r) in
         rw (← o) (by_edge_lem k.now.edge-new l (λ a x c _. (inv_kept k).time_in c))
 
     -- it does not, by t
@@ -81,7 +81,7 @@ timed_kept T T' hs e w g k ih u t s h r = go (into_cases u t e)
 
         not_w : s ≡ w → e.time ≤ t → NewLatest T T' e w u → ⊥
         not_w q l (inl c) = n (sym c.0) l
-        not_w q l (inr c) = w-other k u m c.0 (walk-last (omega (arith, k.was.start_in _ c.2, k.fit.not_earlier)) z ∙ q)
+        not_w q l (inr c) = w-other k u m c.0 (walk_last (omega (arith, k.was.start_in _ c.2, k.fit.not_earlier)) z ∙ q)
 
         new : (a x : ℕ) → x ≤ t → NewEdge T e w a s x → EdgeIn T a s x
         new a x l (inl o) = o

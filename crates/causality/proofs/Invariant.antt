@@ -66,12 +66,12 @@ module _ {T T' : Trail} {last : ℕ} (i : Inv T last) (d : Declared T T') where
   decl_latest_in y (inr q) = rw q (omega (arith, d.row.latest_new, d.row.nv_is))
 
   decl_latest_owner : (y : ℕ) → OldEntity T y → owner_of T' (latest_of T' y) ≡ y
-  decl_latest_owner y (inl k) = ap (owner_of T') (d.row.latest_old y k) ∙ d.owner-old _ (i.latest_in y k) ∙ i.latest_owner y k
-  decl_latest_owner y (inr q) = ap (λ z. owner_of T' (latest_of T' z)) q ∙ ap (owner_of T') d.row.latest_new ∙ d.row.owner-new ∙ sym q
+  decl_latest_owner y (inl k) = ap (owner_of T') (d.row.latest_old y k) ∙ d.owner_old _ (i.latest_in y k) ∙ i.latest_owner y k
+  decl_latest_owner y (inr q) = ap (λ z. owner_of T' (latest_of T' z)) q ∙ ap (owner_of T') d.row.latest_new ∙ d.row.owner_new ∙ sym q
 
   decl_owner_in : (a : ℕ) → OldVersion T a → owner_of T' a < ne T'
-  decl_owner_in a (inl k) = omega (arith, d.owner-old a k, i.owner_in a k, d.row.ne_is)
-  decl_owner_in a (inr q) = rw q (omega (arith, d.row.owner-new, d.row.ne_is))
+  decl_owner_in a (inl k) = omega (arith, d.owner_old a k, i.owner_in a k, d.row.ne_is)
+  decl_owner_in a (inr q) = rw q (omega (arith, d.row.owner_new, d.row.ne_is))
 
   decl_start_in : (a : ℕ) → OldVersion T a → start_time T' a ≤ last
   decl_start_in a (inl k) = omega (arith, d.start_old a k, i.start_in a k)
@@ -92,7 +92,7 @@ module _ {T T' : Trail} {last : ℕ} (i : Inv T last) (d : Declared T T') where
         to_in = λ h. omega (arith, i.to_in (d.edge_inv h), d.row.nv_is);
         time_in = λ h. i.time_in (d.edge_inv h);
         prev_less = λ h. i.prev_less (d.prev_inv h);
-        prev_owner = λ h. let p = d.prev_inv h in d.owner-old _ (prev_in i p) ∙ i.prev_owner p ∙ sym (d.owner-old _ p.inside);
+        prev_owner = λ h. let p = d.prev_inv h in d.owner_old _ (prev_in i p) ∙ i.prev_owner p ∙ sym (d.owner_old _ p.inside);
         prev_start = λ h. let p = d.prev_inv h in omega (arith, d.start_old _ (prev_in i p), i.prev_start p, d.start_old _ p.inside);
         prev_later = λ h. let p = d.prev_inv h in omega (arith, i.prev_later p, d.start_old _ p.inside);
         top = λ y h p. decl_top y (d.entity_inv y h) (d.prev_inv p);

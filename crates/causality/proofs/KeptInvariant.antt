@@ -17,10 +17,10 @@ module _ {T T' : Trail} {last : ℕ} {e : Event} {w : ℕ} (k : Kept T T' last e
 
   kept_latest_owner : (y : ℕ) → y < ne T → NewLatest T T' e w y → owner_of T' (latest_of T' y) ≡ y
   kept_latest_owner y h (inl c) = ap (owner_of T') c.1 ∙ k.now.owner-w ∙ sym c.0
-  kept_latest_owner y h (inr c) = ap (owner_of T') c.1 ∙ k.now.owner-old _ c.2 ∙ k.was.latest_owner y h
+  kept_latest_owner y h (inr c) = ap (owner_of T') c.1 ∙ k.now.owner_old _ c.2 ∙ k.was.latest_owner y h
 
   kept_owner_in : (a : ℕ) → NewVersion T w a → owner_of T' a < ne T'
-  kept_owner_in a (inl h) = omega (arith, k.now.owner-old a h, k.was.owner_in a h, k.now.row.ne_is)
+  kept_owner_in a (inl h) = omega (arith, k.now.owner_old a h, k.was.owner_in a h, k.now.row.ne_is)
   kept_owner_in a (inr c) = omega (arith, ap (owner_of T') c.0, k.now.owner-w, k.now.row.ne_is, k.fit.target_in)
 
   kept_start_in : (a : ℕ) → NewVersion T w a → start_time T' a ≤ e.time
@@ -44,9 +44,9 @@ module _ {T T' : Trail} {last : ℕ} {e : Event} {w : ℕ} (k : Kept T T' last e
   kept_prev_less a b (inr c) = omega (arith, c, target_now k)
 
   kept_prev_owner : (a b : ℕ) → NewPrev T e w a b → owner_of T' a ≡ owner_of T' b
-  kept_prev_owner a b (inl p) = k.now.owner-old _ (prev_in k.was p) ∙ k.was.prev_owner p ∙ sym (k.now.owner-old _ p.inside)
+  kept_prev_owner a b (inl p) = k.now.owner_old _ (prev_in k.was p) ∙ k.was.prev_owner p ∙ sym (k.now.owner_old _ p.inside)
   kept_prev_owner a b (inr c) =
-      ap (owner_of T') c.0 ∙ k.now.owner-old _ (target_now k) ∙ k.was.latest_owner _ k.fit.target_in ∙ sym (ap (owner_of T') c.1 ∙ k.now.owner-w)
+      ap (owner_of T') c.0 ∙ k.now.owner_old _ (target_now k) ∙ k.was.latest_owner _ k.fit.target_in ∙ sym (ap (owner_of T') c.1 ∙ k.now.owner-w)
 
   kept_prev_start : (a b : ℕ) → NewPrev T e w a b → start_time T' a ≤ start_time T' b
   kept_prev_start a b (inl p) = omega (arith, k.now.start_old a (prev_in k.was p), k.was.prev_start p, k.now.start_old b p.inside)

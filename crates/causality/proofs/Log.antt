@@ -42,8 +42,8 @@ logged_stands {T} {T'} i o (e ∷ ks) h a = (same ∙ a.0, o.kind_old n m ∙ a.
     same = λ j.
         records.Event (record {
           kind = kind_of (o.kind_old n m j);
-          source = entity_no ((ap (owner_of T') (o.from_old n m) ∙ o.owner-old _ (i.from_in (edge_at n m refl))) j);
-          target = entity_no ((ap (owner_of T') (o.to-old n m) ∙ o.owner-old _ (i.to_in (edge_at n m refl))) j);
+          source = entity_no ((ap (owner_of T') (o.from_old n m) ∙ o.owner_old _ (i.from_in (edge_at n m refl))) j);
+          target = entity_no ((ap (owner_of T') (o.to_old n m) ∙ o.owner_old _ (i.to_in (edge_at n m refl))) j);
           time = o.time_old n m j;
         })
 
@@ -53,8 +53,8 @@ new-edge {T} {T'} {e = e} k = λ j.
     let r = k.now.row in
     records.Event (record {
       kind = (ap kind_of r.kind_new ∙ kind_of-kind_no e.kind) j;
-      source = entity_no ((ap (owner_of T') r.from-new ∙ k.now.owner-old _ (source_now k) ∙ k.was.latest_owner _ k.fit.source_in) j);
-      target = entity_no ((ap (owner_of T') r.to-new ∙ k.now.owner-w) j);
+      source = entity_no ((ap (owner_of T') r.from_new ∙ k.now.owner_old _ (source_now k) ∙ k.was.latest_owner _ k.fit.source_in) j);
+      target = entity_no ((ap (owner_of T') r.to_new ∙ k.now.owner-w) j);
       time = r.time_new j;
     })
 

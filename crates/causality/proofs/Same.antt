@@ -16,11 +16,11 @@ use Rattle.causality.proofs.ForwardMarks.{fwd_more, fwd_in}
 keeps_trans : {T U R : Trail} → nv T ≤ nv U → nd T ≤ nd U → Keeps T U → Keeps U R → Keeps T R
 keeps_trans m n p q =
     record {
-      owner-old = λ a h. q.owner-old a (omega arith) ∙ p.owner-old a h;
+      owner_old = λ a h. q.owner_old a (omega arith) ∙ p.owner_old a h;
       start_old = λ a h. q.start_old a (omega arith) ∙ p.start_old a h;
-      previous-old = λ a h. q.previous-old a (omega arith) ∙ p.previous-old a h;
+      previous_old = λ a h. q.previous_old a (omega arith) ∙ p.previous_old a h;
       from_old = λ k h. q.from_old k (omega arith) ∙ p.from_old k h;
-      to-old = λ k h. q.to-old k (omega arith) ∙ p.to-old k h;
+      to_old = λ k h. q.to_old k (omega arith) ∙ p.to_old k h;
       kind_old = λ k h. q.kind_old k (omega arith) ∙ p.kind_old k h;
       time_old = λ k h. q.time_old k (omega arith) ∙ p.time_old k h;
     }
@@ -33,9 +33,9 @@ declares_same d s =
       nd_is = s.nd_is ∙ d.nd_is;
       latest_new = s.latest_old _ (omega (arith, d.ne_is)) ∙ d.latest_new;
       latest_old = λ y h. s.latest_old y (omega (arith, d.ne_is)) ∙ d.latest_old y h;
-      owner-new = s.old.owner-old _ (omega (arith, d.nv_is)) ∙ d.owner-new;
+      owner_new = s.old.owner_old _ (omega (arith, d.nv_is)) ∙ d.owner_new;
       start_new = s.old.start_old _ (omega (arith, d.nv_is)) ∙ d.start_new;
-      previous-new = s.old.previous-old _ (omega (arith, d.nv_is)) ∙ d.previous-new;
+      previous_new = s.old.previous_old _ (omega (arith, d.nv_is)) ∙ d.previous_new;
       old = keeps_trans (omega (arith, d.nv_is)) (omega (arith, d.nd_is)) d.old s.old;
     }
 
@@ -47,10 +47,10 @@ module _ {T U R : Trail} {e : Event} {w : ℕ} (target_in : e.target.0 < ne T) (
       inr (record {
         is = c.is;
         nv_is = s.nv_is ∙ c.nv_is;
-        owner = s.old.owner-old w h ∙ c.owner;
+        owner = s.old.owner_old w h ∙ c.owner;
         start = s.old.start_old w h ∙ c.start;
-        some = λ q. c.some (sym (s.old.previous-old w h) ∙ q);
-        previous = s.old.previous-old w h ∙ c.previous;
+        some = λ q. c.some (sym (s.old.previous_old w h) ∙ q);
+        previous = s.old.previous_old w h ∙ c.previous;
       })
 
   enters-same : AddsEdge T R e w
@@ -60,8 +60,8 @@ module _ {T U R : Trail} {e : Event} {w : ℕ} (target_in : e.target.0 < ne T) (
         nd_is = s.nd_is ∙ r.nd_is;
         latest_target = s.latest_old _ (omega (arith, r.ne_is)) ∙ r.latest_target;
         latest_other = λ y h n. s.latest_old y (omega (arith, r.ne_is)) ∙ r.latest_other y h n;
-        from-new = s.old.from_old _ (omega (arith, r.nd_is)) ∙ r.from-new;
-        to-new = s.old.to-old _ (omega (arith, r.nd_is)) ∙ r.to-new;
+        from_new = s.old.from_old _ (omega (arith, r.nd_is)) ∙ r.from_new;
+        to_new = s.old.to_old _ (omega (arith, r.nd_is)) ∙ r.to_new;
         kind_new = s.old.kind_old _ (omega (arith, r.nd_is)) ∙ r.kind_new;
         time_new = s.old.time_old _ (omega (arith, r.nd_is)) ∙ r.time_new;
         shape = shape_same r.shape;
@@ -83,7 +83,7 @@ leads_same g s h l =
     record {
       version = l.version;
       marked = fwd_more (λ a b t. edge_stands s.old (omega (arith, s.nd_is))) (λ a b. prev_stands s.old (omega (arith, s.nv_is))) l.marked;
-      owner = s.old.owner-old _ (fwd_in (inv g) h l.marked) ∙ l.owner;
+      owner = s.old.owner_old _ (fwd_in (inv g) h l.marked) ∙ l.owner;
     }
 
 pub grown-same : {T U : Trail} {hs : List Item} → Grown T hs → Same T U → Grown U hs

@@ -19,9 +19,9 @@ chain_in {T} i h (OnChain.previous {v = v} c n q) =
     let p : PrevIn T (previous_of T v) v = record { inside = chain_in i h c; some = n; is = refl } in
     rw q (prev_in i p)
 
-walk-chain : {T : Trail} {t x w s : ℕ} → OnChain T x w → Walk T t w s → OnChain T x s
-walk-chain {T} {x = x} c (stop q h) = subst (λ z. OnChain T x z) q c
-walk-chain c (back h p r) = walk-chain (OnChain.previous c p.some (sym p.is)) r
+walk_chain : {T : Trail} {t x w s : ℕ} → OnChain T x w → Walk T t w s → OnChain T x s
+walk_chain {T} {x = x} c (stop q h) = subst (λ z. OnChain T x z) q c
+walk_chain c (back h p r) = walk_chain (OnChain.previous c p.some (sym p.is)) r
 
 -- a version on the chain is not above s, or the walk passes it
 abbrev Passed : Trail → ℕ → ℕ → ℕ → Type 0
@@ -48,7 +48,7 @@ chain_passed {T} {t = t} {x = x} {s = s} {w = w} i h r (OnChain.previous {v = v}
 
 pub walk_version : {T : Trail} {l x t s : ℕ} → Inv T l → x < ne T → StartsAt T x t s → StartVersion T x t s
 walk_version {T} {x = x} {t = t} {s = s} i h r =
-    record { on_chain = walk-chain (OnChain.latest refl) r; by = walk_start r; highest = λ w c k. go w k (chain_passed i h r c) }
+    record { on_chain = walk_chain (OnChain.latest refl) r; by = walk_start r; highest = λ w c k. go w k (chain_passed i h r c) }
   where
     go : (w : ℕ) → start_time T w ≤ t → Passed T t s w → w ≤ s
     go w k (inl m) = m

@@ -24,14 +24,14 @@ up g = grown_ind Up (λ T _ v _ a h. absurd (omega arith)) decl (λ T hs e g f r
     decl T T' hs g d ih a h = go (d.version_inv a h)
       where
         go : OldVersion T a → ForwardMarks T' a (latest_of T' (owner_of T' a))
-        go (inl k) = rw (d.owner-old a k, d.row.latest_old _ ((inv g).owner_in a k)) (fwd_declared d (ih a k))
-        go (inr q) = rw (q, d.row.owner-new, d.row.latest_new) (start refl)
+        go (inl k) = rw (d.owner_old a k, d.row.latest_old _ ((inv g).owner_in a k)) (fwd_declared d (ih a k))
+        go (inr q) = rw (q, d.row.owner_new, d.row.latest_new) (start refl)
 
     keep : OnKept Up
     keep T T' hs e w g k ih a h = go (k.now.version_inv a h)
       where
         go : NewVersion T w a → ForwardMarks T' a (latest_of T' (owner_of T' a))
-        go (inl o) = rw (k.now.owner-old a o) (latest_up k _ (k.was.owner_in a o) (kept_more k (ih a o)))
+        go (inl o) = rw (k.now.owner_old a o) (latest_up k _ (k.was.owner_in a o) (kept_more k (ih a o)))
         go (inr c) = start (ap (λ z. latest_of T' (owner_of T' z)) c.0 ∙ ap (latest_of T') k.now.owner-w ∙ k.now.row.latest_target ∙ sym c.0)
 
 -- where some version of v is marked, its latest is
@@ -50,17 +50,17 @@ first g = grown_ind First (λ T _ v _ s a h. absurd (omega arith)) decl (λ T hs
     decl T T' hs g d ih s a h j z q = go (d.version_inv s h) (d.version_inv a j)
       where
         go : OldVersion T s → OldVersion T a → ForwardMarks T' s a
-        go (inl m) (inl n) = fwd_declared d (ih s a m n (sym (d.start_old s m) ∙ z) (sym (d.owner-old a n) ∙ q ∙ d.owner-old s m))
+        go (inl m) (inl n) = fwd_declared d (ih s a m n (sym (d.start_old s m) ∙ z) (sym (d.owner_old a n) ∙ q ∙ d.owner_old s m))
         go (inr m) (inr n) = start (n ∙ sym m)
-        go (inl m) (inr n) = absurd (omega (arith, d.owner-old s m, (inv g).owner_in s m, ap (owner_of T') n, d.row.owner-new, q))
-        go (inr m) (inl n) = absurd (omega (arith, d.owner-old a n, (inv g).owner_in a n, ap (owner_of T') m, d.row.owner-new, q))
+        go (inl m) (inr n) = absurd (omega (arith, d.owner_old s m, (inv g).owner_in s m, ap (owner_of T') n, d.row.owner_new, q))
+        go (inr m) (inl n) = absurd (omega (arith, d.owner_old a n, (inv g).owner_in a n, ap (owner_of T') m, d.row.owner_new, q))
 
     keep : OnKept First
     keep T T' hs e w g k ih s a h j z q = go (k.now.version_inv s h) (k.now.version_inv a j)
       where
         go : NewVersion T w s → NewVersion T w a → ForwardMarks T' s a
-        go (inl m) (inl n) = kept_more k (ih s a m n (sym (k.now.start_old s m) ∙ z) (sym (k.now.owner-old a n) ∙ q ∙ k.now.owner-old s m))
+        go (inl m) (inl n) = kept_more k (ih s a m n (sym (k.now.start_old s m) ∙ z) (sym (k.now.owner_old a n) ∙ q ∙ k.now.owner_old s m))
         go (inr c) n = absurd (omega (arith, k.fit.positive, (new_shape k c.1).start, ap (start_time T') c.0, z))
         go (inl m) (inr c) =
-            let p : owner_of T (latest_of T e.target.0) ≡ owner_of T s = k.was.latest_owner _ k.fit.target_in ∙ sym k.now.owner-w ∙ ap (owner_of T') (sym c.0) ∙ q ∙ k.now.owner-old s m in
+            let p : owner_of T (latest_of T e.target.0) ≡ owner_of T s = k.was.latest_owner _ k.fit.target_in ∙ sym k.now.owner-w ∙ ap (owner_of T') (sym c.0) ∙ q ∙ k.now.owner_old s m in
             rw c.0 (fwd_trans (kept_more k (ih s _ m (target_now k) (sym (k.now.start_old s m) ∙ z) p)) (target_up k))

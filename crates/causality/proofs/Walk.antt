@@ -23,9 +23,9 @@ pub data Walk (T : Trail) (t : ℕ) : ℕ → ℕ → Type 0 where
 abbrev pub StartsAt : Trail → ℕ → ℕ → ℕ → Type 0
 StartsAt T u t s = Walk T t (latest_of T u) s
 
-walk-owner : {T : Trail} {l t w s : ℕ} → Inv T l → Walk T t w s → owner_of T s ≡ owner_of T w
-walk-owner {T} i (stop q h) = ap (owner_of T) (sym q)
-walk-owner i (back h p r) = walk-owner i r ∙ i.prev_owner p
+walk_owner : {T : Trail} {l t w s : ℕ} → Inv T l → Walk T t w s → owner_of T s ≡ owner_of T w
+walk_owner {T} i (stop q h) = ap (owner_of T) (sym q)
+walk_owner i (back h p r) = walk_owner i r ∙ i.prev_owner p
 
 walk_in : {T : Trail} {l t w s : ℕ} → Inv T l → w < nv T → Walk T t w s → s < nv T
 walk_in i m (stop q h) = rw (← q) m
@@ -36,22 +36,22 @@ walk_start (stop q h) = rw (← q) h
 walk_start (back h p r) = walk_start r
 
 -- with no start after t it is the version itself
-pub walk-last : {T : Trail} {t w s : ℕ} → start_time T w ≤ t → Walk T t w s → w ≡ s
-walk-last h (stop q k) = q
-walk-last h (back k p r) = absurd (omega arith)
+pub walk_last : {T : Trail} {t w s : ℕ} → start_time T w ≤ t → Walk T t w s → w ≡ s
+walk_last h (stop q k) = q
+walk_last h (back k p r) = absurd (omega arith)
 
 pub starts_in : {T : Trail} {l u t s : ℕ} → Inv T l → u < ne T → StartsAt T u t s → s < nv T
 starts_in {u = u} i h r = walk_in i (i.latest_in u h) r
 
 pub starts_owner : {T : Trail} {l u t s : ℕ} → Inv T l → u < ne T → StartsAt T u t s → owner_of T s ≡ u
-starts_owner {u = u} i h r = walk-owner i r ∙ i.latest_owner u h
+starts_owner {u = u} i h r = walk_owner i r ∙ i.latest_owner u h
 
 -- a declaration changes none
-pub walk-declared : {T T' : Trail} {l : ℕ} → Inv T l → Declared T T' → {t w s : ℕ} → w < nv T → Walk T' t w s → Walk T t w s
-walk-declared i d h (stop q m) = stop q (omega (arith, d.start_old _ h))
-walk-declared i d h (back {w = w} m z r) =
+pub walk_declared : {T T' : Trail} {l : ℕ} → Inv T l → Declared T T' → {t w s : ℕ} → w < nv T → Walk T' t w s → Walk T t w s
+walk_declared i d h (stop q m) = stop q (omega (arith, d.start_old _ h))
+walk_declared i d h (back {w = w} m z r) =
     let o = d.prev_inv z in
-    back {w = w} (omega (arith, d.start_old _ h)) o (walk-declared i d (prev_in i o) r)
+    back {w = w} (omega (arith, d.start_old _ h)) o (walk_declared i d (prev_in i o) r)
 
 -- a kept event changes none but its target's from its time on
 module _ {T T' : Trail} {last : ℕ} {e : Event} {w : ℕ} (k : Kept T T' last e w) where

@@ -57,11 +57,11 @@ Unused T w = (b t : ℕ) → EdgeIn T w b t → ⊥
 
 -- the versions of T, but for their ends, and its edges, but for counts and last times, stand in T'
 pub record Keeps (T T' : Trail) : Type 0 where
-  pub owner-old : (a : ℕ) → a < nv T → owner_of T' a ≡ owner_of T a
+  pub owner_old : (a : ℕ) → a < nv T → owner_of T' a ≡ owner_of T a
   pub start_old : (a : ℕ) → a < nv T → start_time T' a ≡ start_time T a
-  pub previous-old : (a : ℕ) → a < nv T → previous_of T' a ≡ previous_of T a
+  pub previous_old : (a : ℕ) → a < nv T → previous_of T' a ≡ previous_of T a
   pub from_old : (k : ℕ) → k < nd T → (T'.edge k).from.0 ≡ (T.edge k).from.0
-  pub to-old : (k : ℕ) → k < nd T → (T'.edge k).to.0 ≡ (T.edge k).to.0
+  pub to_old : (k : ℕ) → k < nd T → (T'.edge k).to.0 ≡ (T.edge k).to.0
   pub kind_old : (k : ℕ) → k < nd T → (T'.edge k).kind ≡ (T.edge k).kind
   pub time_old : (k : ℕ) → k < nd T → (T'.edge k).time ≡ (T.edge k).time
 
@@ -80,9 +80,9 @@ pub record Declares (T T' : Trail) : Type 0 where
   pub nd_is : nd T' ≡ nd T
   pub latest_new : latest_of T' (ne T) ≡ nv T
   pub latest_old : (y : ℕ) → y < ne T → latest_of T' y ≡ latest_of T y
-  pub owner-new : owner_of T' (nv T) ≡ ne T
+  pub owner_new : owner_of T' (nv T) ≡ ne T
   pub start_new : start_time T' (nv T) ≡ 0
-  pub previous-new : previous_of T' (nv T) ≡ none
+  pub previous_new : previous_of T' (nv T) ≡ none
   pub old : Keeps T T'
 
 -- the edge enters the target's latest version, which no edge leaves; or a new version
@@ -105,8 +105,8 @@ pub record AddsEdge (T T' : Trail) (e : Event) (w : ℕ) : Type 0 where
   pub nd_is : nd T' ≡ suc (nd T)
   pub latest_target : latest_of T' e.target.0 ≡ w
   pub latest_other : (y : ℕ) → y < ne T → (y ≡ e.target.0 → ⊥) → latest_of T' y ≡ latest_of T y
-  pub from-new : (T'.edge (nd T)).from.0 ≡ latest_of T e.source.0
-  pub to-new : (T'.edge (nd T)).to.0 ≡ w
+  pub from_new : (T'.edge (nd T)).from.0 ≡ latest_of T e.source.0
+  pub to_new : (T'.edge (nd T)).to.0 ≡ w
   pub kind_new : (T'.edge (nd T)).kind ≡ kind_no e.kind
   pub time_new : (T'.edge (nd T)).time ≡ e.time
   pub shape : Wide T T' e w ⊎ New T T' e w

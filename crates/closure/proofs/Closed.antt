@@ -9,7 +9,7 @@ use lib.ListN.{length, get_or, set, length-set, length-replicate}
 use Rattle.rows.proofs.Stores.{get_or_zeros}
 use Rattle.rules.specs.Marks.{Arc, pass, passes, seeded, closed}
 use Rattle.closure.specs.Arcs.{ReachedBy, Marked, Bits, EndBelow, AllBelow, ClosedUnder}
-use Rattle.closure.proofs.Marks.{bits_zeros, marked_set_cases, marked_set, marked_set-same, bits_set, marks_ext, unmarked_le}
+use Rattle.closure.proofs.Marks.{bits_zeros, marked_set_cases, marked_set, marked_set_same, bits_set, marks_ext, unmarked_le}
 use Rattle.closure.proofs.Passes.{length-passes, marked_passes, bits_passes, reached_passes}
 use Rattle.closure.proofs.Steady.{Steady, passes_enough}
 
@@ -31,7 +31,7 @@ marked_seeded n [] b l k = absurd (Memᴰ.not-nil k)
 marked_seeded n (s ∷ ss) b l k = go (Memᴰ.cases_cons k) (λ k'. marked_seeded n ss b l k')
   where
     go : (b ≡ s) ⊎ Memᴰ b ss → (Memᴰ b ss → Marked (seeded n ss) b) → Marked (set (seeded n ss) s 1) b
-    go (inl q) r = rw (← q) (marked_set-same (seeded n ss) b (omega (arith, length-seeded n ss)))
+    go (inl q) r = rw (← q) (marked_set_same (seeded n ss) b (omega (arith, length-seeded n ss)))
     go (inr k') r = marked_set (seeded n ss) s b (r k')
 
 pub seeded_marked : (n : ℕ) (ss : List ℕ) (b : ℕ) → Marked (seeded n ss) b → Memᴰ b ss

@@ -14,7 +14,7 @@ use Rattle.rows.specs.declared.VersionRow.{VersionRow}
 use Rattle.rows.proofs.Stores.{get_or_zeros}
 use Rattle.rules.specs.Marks.{has_marked, marks_below}
 use Rattle.closure.specs.Arcs.{Marked, Bits}
-use Rattle.closure.proofs.Marks.{bits_zeros, marked_set_cases, marked_set, marked_set-same, bits_set, bits_past, marks_ext}
+use Rattle.closure.proofs.Marks.{bits_zeros, marked_set_cases, marked_set, marked_set_same, bits_set, bits_past, marks_ext}
 
 module _ (W : ℕ → VersionRow) (work : List ℕ) where
   -- entity x has a marked version among the first n
@@ -105,7 +105,7 @@ module _ (W : ℕ → VersionRow) (work : List ℕ) where
 
       from : (x : ℕ) → x < m → HasMarked n x ⊎ (Marked work n × ((W n).entity.0 ≡ x)) → Marked (set (marks_below W work n m) (W n).entity.0 1) x
       from x l (inl z) = marked_set (marks_below W work n m) (W n).entity.0 x ((marks_below_iff n m x l).1 z)
-      from x l (inr z) = rw z.1 (marked_set-same (marks_below W work n m) x (omega (arith, length-marks_below n m)))
+      from x l (inr z) = rw z.1 (marked_set_same (marks_below W work n m) x (omega (arith, length-marks_below n m)))
 
   pub marks_below-other : (n m : ℕ) → (Marked work n → ⊥) → marks_below W work n m ≡ marks_below W work (suc n) m
   marks_below-other n m h =

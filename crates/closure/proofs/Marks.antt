@@ -48,8 +48,8 @@ marked_set m i b h = go (ℕ_discrete b i)
     go (yes q) = rw (← q) (get_or-set_same m b 1 0 (marked_in m b h))
     go (no n) = get_or-set_other m i b 1 0 n ∙ h
 
-pub marked_set-same : (m : List ℕ) (i : ℕ) → i < length m → Marked (set m i 1) i
-marked_set-same m i l = get_or-set_same m i 1 0 l
+pub marked_set_same : (m : List ℕ) (i : ℕ) → i < length m → Marked (set m i 1) i
+marked_set_same m i l = get_or-set_same m i 1 0 l
 
 -- marking a marked place changes nothing
 pub set_marked : (m : List ℕ) (i : ℕ) → Marked m i → set m i 1 ≡ m

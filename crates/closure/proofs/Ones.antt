@@ -21,9 +21,9 @@ unfolding ones
 ones-append [] b = omega arith
 ones-append (x ∷ a) b = omega (arith, ones-append a b)
 
-pub ones-take_suc : (m : List ℕ) (j : ℕ) → j < length m → ones (take (suc j) m) ≡ ones (take j m) + cond (eqb (get_or m j 0) 1) 1 0
+pub ones_take_suc : (m : List ℕ) (j : ℕ) → j < length m → ones (take (suc j) m) ≡ ones (take j m) + cond (eqb (get_or m j 0) 1) 1 0
 unfolding ones
-ones-take_suc m j l = ap ones (take-suc m j 0 l) ∙ ones-append (take j m) (get_or m j 0 ∷ []) ∙ omega arith
+ones_take_suc m j l = ap ones (take-suc m j 0 l) ∙ ones-append (take j m) (get_or m j 0 ∷ []) ∙ omega arith
 
 -- the places marked below n, the highest first
 
@@ -36,7 +36,7 @@ places m = places_below m (length m)
 length-places_below : (m : List ℕ) (n : ℕ) → n ≤ length m → length (places_below m n) ≡ ones (take n m)
 unfolding collected ones
 length-places_below m zero l = refl
-length-places_below m (suc n) l = go (eqb (get_or m n 0) 1) (length-places_below m n (omega arith)) (ones-take_suc m n l)
+length-places_below m (suc n) l = go (eqb (get_or m n 0) 1) (length-places_below m n (omega arith)) (ones_take_suc m n l)
   where
     go : (b : Bool) → length (places_below m n) ≡ ones (take n m) → ones (take (suc n) m) ≡ ones (take n m) + cond b 1 0
         → length (cond b (n ∷ places_below m n) (places_below m n)) ≡ ones (take (suc n) m)

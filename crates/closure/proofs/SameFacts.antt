@@ -20,9 +20,9 @@ module _ {T T' : Trail} (s : SameRows T T') (last : T.counts.last ≡ T'.counts.
     versions_le = omega (arith, s.versions);
     last_le = omega arith;
     sort_stays = λ x l. inl (sym (ap (λ (r : EntityRow). r.sort) (s.entity_rows x l)));
-    owner-same = λ k l. sym (ap (λ (r : VersionRow). r.entity.0) (s.version_rows k l));
+    owner_same = λ k l. sym (ap (λ (r : VersionRow). r.entity.0) (s.version_rows k l));
     start_same = λ k l. sym (ap (λ (r : VersionRow). r.start) (s.version_rows k l));
-    previous-same = λ k l. sym (ap (λ (r : VersionRow). r.previous.0) (s.version_rows k l));
+    previous_same = λ k l. sym (ap (λ (r : VersionRow). r.previous.0) (s.version_rows k l));
     edges = rows_stay (λ k l. sym (s.edge_rows k l));
   }
 

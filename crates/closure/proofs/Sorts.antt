@@ -145,5 +145,5 @@ module _ (c c' : Counts) (t t' : Tables) (p : is_sound (capacity_of t) (trail_of
       go (Refused r) q =
           forward_of_refused c t us time work marks r q ∙ sym (forward_of_refused c' t' us time work marks r (sym (checked-same us work marks) ∙ q))
 
-pub no_sort-read : NoSortRead
-no_sort-read c c' t t' p p' s = record { backward = backward-same c c' t t' p p' s; forward = forward-same c c' t t' p p' s }
+pub no_sort_read : NoSortRead
+no_sort_read c c' t t' p p' s = record { backward = backward-same c c' t t' p p' s; forward = forward-same c c' t t' p p' s }

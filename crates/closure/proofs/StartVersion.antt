@@ -20,7 +20,7 @@ module _ (T : Trail) (f : RowFacts T) where
       go : (v < T.counts.versions) × (owner_of T v ≡ x) → (w < T.counts.versions) × (owner_of T w ≡ x)
       go (l, o) =
           let r = f.version v l in
-          rw q (omega (arith, previous_before T f v l d), r.previous-owner (λ z. d (r.first z)) ∙ o)
+          rw q (omega (arith, previous_before T f v l d), r.previous_owner (λ z. d (r.first z)) ∙ o)
 
   module _ (x t : ℕ) (h : x < T.counts.entities) where
     -- a version on the chain is not above what the search finds, or the search passes it

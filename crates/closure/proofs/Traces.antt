@@ -44,16 +44,16 @@ module _ (T : Trail) (work : List ℕ) (M : ℕ → Type 0) (is : (w : ℕ) → 
 
 module _ (T : Trail) (f : RowFacts T) where
   -- "1 for each entity with a marked version"
-  pub backward-marks : (v t x : ℕ) → v < T.counts.entities → x < T.counts.entities
+  pub backward_marks : (v t x : ℕ) → v < T.counts.entities → x < T.counts.entities
       → get_or (backward_entities T v t) x 0 ≡ 1 ↔ ((w : ℕ) × BackwardMarks T (start_of T v t) t w × (owner_of T w ≡ x))
   unfolding backward_entities
-  backward-marks v t x h =
+  backward_marks v t x h =
       entities_iff T (backward_work T v t) (BackwardMarks T (start_of T v t) t) (backward_work_iff T f v t h)
       (λ w d. backward_marks_in T (start_of T v t) t f (start_in T f v t h) d) x
 
-  pub forward-marks : (us : List ℕ) (t x : ℕ) → AllBelow T.counts.entities us → x < T.counts.entities
+  pub forward_marks : (us : List ℕ) (t x : ℕ) → AllBelow T.counts.entities us → x < T.counts.entities
       → get_or (forward_entities T us t) x 0 ≡ 1 ↔ ((w : ℕ) × OfAny us (λ u. ForwardMarks T (start_of T u t)) w × (owner_of T w ≡ x))
   unfolding forward_entities
-  forward-marks us t x h =
+  forward_marks us t x h =
       entities_iff T (forward_work T us t) (OfAny us (λ u. ForwardMarks T (start_of T u t))) (forward_work_iff T f us t h)
       (λ w z. forward_marks_in T (start_of T z.0 t) f (start_in T f z.0 t (h z.0 z.1)) z.2) x

@@ -7,20 +7,20 @@ use mathlib.Core.List.{List, [], ◌∷◌}
 use lib.ListN.{length, get_or, set, length-set, replicate}
 use lib.Seq.{sets, get_or-set_same, get_or-set_other}
 
-pub get_or-sets_out : (vs xs : List ℕ) (i m : ℕ) → (i ≤ m → i + length vs ≤ m) → get_or (sets xs i vs) m 0 ≡ get_or xs m 0
-get_or-sets_out [] xs i m h = refl
-get_or-sets_out (v ∷ vs) xs i m h =
-    get_or-sets_out vs (set xs i v) (suc i) m (λ l. let k = h (omega arith) in omega arith)
+pub get_or_sets_out : (vs xs : List ℕ) (i m : ℕ) → (i ≤ m → i + length vs ≤ m) → get_or (sets xs i vs) m 0 ≡ get_or xs m 0
+get_or_sets_out [] xs i m h = refl
+get_or_sets_out (v ∷ vs) xs i m h =
+    get_or_sets_out vs (set xs i v) (suc i) m (λ l. let k = h (omega arith) in omega arith)
     ∙ get_or-set_other xs i m v 0 (λ e. let k = h (omega arith) in omega arith)
 
-pub get_or-sets_in : (vs xs : List ℕ) (i j m : ℕ) → m ≡ i + j → j < length vs → i + length vs ≤ length xs → get_or (sets xs i vs) m 0 ≡ get_or vs j 0
-get_or-sets_in [] xs i j m e l h = absurd (omega arith)
-get_or-sets_in (v ∷ vs) xs i zero m e l h =
-    get_or-sets_out vs (set xs i v) (suc i) m (λ k. omega arith)
+pub get_or_sets_in : (vs xs : List ℕ) (i j m : ℕ) → m ≡ i + j → j < length vs → i + length vs ≤ length xs → get_or (sets xs i vs) m 0 ≡ get_or vs j 0
+get_or_sets_in [] xs i j m e l h = absurd (omega arith)
+get_or_sets_in (v ∷ vs) xs i zero m e l h =
+    get_or_sets_out vs (set xs i v) (suc i) m (λ k. omega arith)
     ∙ ap (λ (n : ℕ). get_or (set xs i v) n 0) (let q : m ≡ i = omega arith in q)
     ∙ get_or-set_same xs i v 0 (omega arith)
-get_or-sets_in (v ∷ vs) xs i (suc j) m e l h =
-    get_or-sets_in vs (set xs i v) (suc i) j m (omega arith) (omega arith) (simp length-set (omega arith))
+get_or_sets_in (v ∷ vs) xs i (suc j) m e l h =
+    get_or_sets_in vs (set xs i v) (suc i) j m (omega arith) (omega arith) (simp length-set (omega arith))
 
 pub get_or_zeros : (n i : ℕ) → get_or {A = ℕ} (replicate n 0) i 0 ≡ 0
 get_or_zeros zero i = refl
@@ -52,9 +52,9 @@ set_same (x ∷ xs) zero = refl
 set_same (x ∷ xs) (suc i) = ap (λ (ys : List ℕ). x ∷ ys) (set_same xs i)
 
 -- the last two of a run of six, of which the first four stand already
-pub last-pair : (xs : List ℕ) (i e f : ℕ)
+pub last_pair : (xs : List ℕ) (i e f : ℕ)
     → set (set xs (i + 4) e) (i + 5) f ≡ sets xs i (get_or xs i 0 ∷ get_or xs (i + 1) 0 ∷ get_or xs (i + 2) 0 ∷ get_or xs (i + 3) 0 ∷ e ∷ f ∷ [])
-last-pair xs i e f =
+last_pair xs i e f =
     let e1 : i + 1 ≡ suc i = omega arith in
     let e2 : i + 2 ≡ suc (suc i) = omega arith in
     let e3 : i + 3 ≡ suc (suc (suc i)) = omega arith in

@@ -36,7 +36,7 @@ cases = (
     log_again = refl;
     log_104 = refl;
     log_103 = refl;
-    log-bytes = refl;
+    log_bytes = refl;
     log_refused = refl;
   },
   record {

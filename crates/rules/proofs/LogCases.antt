@@ -7,11 +7,11 @@ pub log_cases : LogCases
 unfolding computed
 log_cases = record {
   fresh_exact = refl;
-  fresh-short = refl;
+  fresh_short = refl;
   exact = refl;
   longer = refl;
   short = refl;
-  unsound-log = refl;
+  unsound_log = refl;
   no_edge = refl;
   four_bytes = refl;
 }

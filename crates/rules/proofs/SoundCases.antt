@@ -6,7 +6,7 @@ use Rattle.rules.proofs.Computed.{computed}
 pub sound_cases : SoundCases
 unfolding computed
 sound_cases = record {
-  full-tables = refl;
+  full_tables = refl;
   entities_within = refl;
   versions_within = refl;
   edges_within = refl;
@@ -18,8 +18,8 @@ sound_cases = record {
   latest_of_second = refl;
   entity_exists = refl;
   start_end = refl;
-  end_last-of_first = refl;
-  end_last-of_newest = refl;
+  end_last_of_first = refl;
+  end_last_of_newest = refl;
   none_at_zero = refl;
   none_past_zero = refl;
   previous_past_zero = refl;
@@ -38,19 +38,19 @@ sound_cases = record {
   middle_time = refl;
   last_time_lem = refl;
   count_of_first = refl;
-  count_of-none = refl;
+  count_of_none = refl;
   count_of_three = refl;
-  last-of-read = refl;
-  last-of-write = refl;
-  last-of_load = refl;
-  last-of_fork = refl;
-  last-of_execve = refl;
-  last-of-none = refl;
+  last_of_read = refl;
+  last_of_write = refl;
+  last_of_load = refl;
+  last_of_fork = refl;
+  last_of_execve = refl;
+  last_of_none = refl;
   sum_with_first = refl;
   sum_with_last = refl;
   sum_past_32_bits = refl;
   sum_past_64_bits = refl;
-  sum_of-none = refl;
+  sum_of_none = refl;
   rows_past = refl;
   fresh_trail = refl;
 }

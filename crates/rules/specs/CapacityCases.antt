@@ -51,8 +51,8 @@ pub record CapacityCases : Type 0 where
   -- the largest tables, one row left and none
   pub last_entity : map (λ e. declaration_at e 65535) (4095 ∷ 4096 ∷ []) ≡ 0 ∷ 10 ∷ []
   pub last_version : map (declaration_at 4095) (65535 ∷ 65536 ∷ []) ≡ 0 ∷ 11 ∷ []
-  pub last-edge : map (λ n. write_at 65536 n Widen) (262143 ∷ 262144 ∷ []) ≡ 0 ∷ 12 ∷ []
-  pub last-edge-renewed : map (λ n. write_at 65535 n Renew) (262143 ∷ 262144 ∷ []) ≡ 0 ∷ 12 ∷ []
+  pub last_edge : map (λ n. write_at 65536 n Widen) (262143 ∷ 262144 ∷ []) ≡ 0 ∷ 12 ∷ []
+  pub last_edge_renewed : map (λ n. write_at 65535 n Renew) (262143 ∷ 262144 ∷ []) ≡ 0 ∷ 12 ∷ []
   pub last_version_renewed : map (λ v. write_at v 262143 Renew) (65535 ∷ 65536 ∷ []) ≡ 0 ∷ 11 ∷ []
   pub repeat_at_full : write_at 65536 262144 (Repeat (edge_no 0)) ≡ 0
   -- "each count is within capacity"

@@ -81,7 +81,7 @@ pub record FileCases : Type 0 where
   pub zero_5 : map (header_with 5) (0 ∷ 1 ∷ 255 ∷ []) ≡ 0 ∷ 1 ∷ 1 ∷ []
   pub zero_6 : map (header_with 6) (0 ∷ 1 ∷ 255 ∷ []) ≡ 0 ∷ 1 ∷ 1 ∷ []
   pub zero_7 : map (header_with 7) (0 ∷ 1 ∷ 255 ∷ []) ≡ 0 ∷ 1 ∷ 1 ∷ []
-  pub header-length : map header_of (0 ∷ 4 ∷ 7 ∷ 8 ∷ []) ≡ 1 ∷ 1 ∷ 1 ∷ 0 ∷ []
+  pub header_length : map header_of (0 ∷ 4 ∷ 7 ∷ 8 ∷ []) ≡ 1 ∷ 1 ∷ 1 ∷ 0 ∷ []
   -- a declaration with 1, and with 255, at each byte in turn: a read of entity 0, a sort, a number that is not the next,
   -- and zero fields
   pub declaration_1 : map (λ i. declaration_with i 1) (0 ∷ 1 ∷ 2 ∷ 3 ∷ 4 ∷ 5 ∷ 6 ∷ 7 ∷ 8 ∷ 9 ∷ 10 ∷ 11 ∷ []) ≡ 5 ∷ 0 ∷ 6 ∷ 6 ∷ replicate 8 4
@@ -96,16 +96,16 @@ pub record FileCases : Type 0 where
   pub kinds : map kind_of (1 ∷ 2 ∷ 3 ∷ 4 ∷ 5 ∷ []) ≡ Read ∷ Write ∷ Load ∷ Fork ∷ Execve ∷ []
   -- "Multi-byte fields are little-endian.", past 8, 16 and 24 bits
   pub time_bytes : map (λ i. (read_with i 2).counts.last) (8 ∷ 9 ∷ 10 ∷ 11 ∷ []) ≡ 2 ∷ 513 ∷ 131073 ∷ 33554433 ∷ []
-  pub decoded-event : decode_of 1 numbered_bytes ≡ Whole numbered
-  pub decoded-declaration : decode_of 1 numbered_subject_bytes ≡ Whole numbered_subject
+  pub decoded_event : decode_of 1 numbered_bytes ≡ Whole numbered
+  pub decoded_declaration : decode_of 1 numbered_subject_bytes ≡ Whole numbered_subject
   pub encoded_event : encode_of numbered ≡ numbered_bytes
   pub encoded_declaration : encode_of numbered_subject ≡ numbered_subject_bytes
-  pub decoded-greatest : decode_of 1 greatest_bytes ≡ Whole greatest_event
+  pub decoded_greatest : decode_of 1 greatest_bytes ≡ Whole greatest_event
   pub encoded_greatest : map encode_of (greatest_event ∷ greatest_object ∷ []) ≡ greatest_bytes ∷ (0 ∷ 0 ∷ 255 ∷ 255 ∷ replicate 8 0) ∷ []
   pub encoded_kinds : map encoded_kind (Read ∷ Write ∷ Load ∷ Fork ∷ Execve ∷ []) ≡ 1 ∷ 2 ∷ 3 ∷ 4 ∷ 5 ∷ []
   -- the greatest time; after it an earlier one is refused, and the same accepted
   pub greatest_time : (taken_in (declare 0 0 ++ (declare 1 1 ++ read_at 255 255 255 255))).counts ≡ counts 2 2 1 1 4294967295
-  pub after-greatest : map (λ a. (taken_in (declare 0 0 ++ (declare 1 1 ++ (read_at 255 255 255 255 ++ read_at a 255 255 255)))).answer) (254 ∷ 255 ∷ [])
+  pub after_greatest : map (λ a. (taken_in (declare 0 0 ++ (declare 1 1 ++ (read_at 255 255 255 255 ++ read_at a 255 255 255)))).answer) (254 ∷ 255 ∷ [])
       ≡ answer 9 3 0 ∷ answer 0 4 1 ∷ []
   -- "One to 11 bytes remain."
   pub cut_short : map cut_to (0 ∷ 1 ∷ 2 ∷ 3 ∷ 4 ∷ 5 ∷ 6 ∷ 7 ∷ 8 ∷ 9 ∷ 10 ∷ 11 ∷ 12 ∷ []) ≡ answer 0 1 0 ∷ (replicate 11 (answer 3 1 0) ++ (answer 0 2 0 ∷ []))

@@ -34,14 +34,14 @@ late_log = kept_log_of (counts 2 2 1 1 67305985) (tables full.entities full.vers
 
 pub record LogCases : Type 0 where
   pub fresh_exact : fresh_log 8 ≡ log_of header 8
-  pub fresh-short : fresh_log 7 ≡ log_refused 15 7
+  pub fresh_short : fresh_log 7 ≡ log_refused 15 7
   -- "the header, all declarations by number, then all edges in order as events"; where nothing is signed, that is all
   pub exact : sound_log 116 ≡ log_of (header ++ (sound_declared ++ sound_events)) 116
   -- "Bytes after it are untouched."
   pub longer : sound_log 118 ≡ log_of (header ++ (sound_declared ++ (sound_events ++ (9 ∷ 9 ∷ [])))) 116
   -- "15. Output shorter than the kept log."; "A refused trace or writer returns count, intake and length 0 and writes nothing."
   pub short : sound_log 115 ≡ log_refused 15 115
-  pub unsound-log : kept_log_of (used 1) unsound (replicate 44 9) ≡ log_refused 16 44
+  pub unsound_log : kept_log_of (used 1) unsound (replicate 44 9) ≡ log_refused 16 44
   -- declarations alone
   pub no_edge : kept_log_of (counts 2 2 0 0 5) full (replicate 32 9) ≡ log_of (header ++ (declare 0 0 ++ declare 1 1)) 32
   -- a time past 24 bits

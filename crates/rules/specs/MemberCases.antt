@@ -52,7 +52,7 @@ pub record MemberCases : Type 0 where
   pub longer_than_the_entities : ForwardIs (forward (0 ∷ 1 ∷ 2 ∷ 3 ∷ 3 ∷ 2 ∷ 1 ∷ 0 ∷ []) 7) 4 0 (1 ∷ 1 ∷ 1 ∷ 1 ∷ [])
   -- every member counts, wherever it stands: the montage's own marks and intake
   pub first_counts : ForwardIs (forward (3 ∷ 2 ∷ 2 ∷ []) 6) 3 0 (0 ∷ 1 ∷ 1 ∷ 1 ∷ [])
-  pub last-counts : ForwardIs (forward (2 ∷ 2 ∷ 3 ∷ []) 6) 3 0 (0 ∷ 1 ∷ 1 ∷ 1 ∷ [])
+  pub last_counts : ForwardIs (forward (2 ∷ 2 ∷ 3 ∷ []) 6) 3 0 (0 ∷ 1 ∷ 1 ∷ 1 ∷ [])
   -- of a version or an entity that another member marks, too: the stager and the report at 1; the montage and the stager at 4; object 0
   -- and subject 1 at 1, whose first version alone gave to 2
   pub marked_already : ForwardIs (forward (1 ∷ 2 ∷ []) 1) 2 0 (0 ∷ 1 ∷ 1 ∷ 0 ∷ [])
@@ -66,7 +66,7 @@ pub record MemberCases : Type 0 where
       ≡ record { refusal = 0; count = 2; intake = 6 }
   pub two_starts_lem : map two_starts ((0 ∷ 1 ∷ []) ∷ (1 ∷ 0 ∷ []) ∷ [])
       ≡ forward_to 2 6 (0 ∷ 0 ∷ 1 ∷ 1 ∷ []) (1 ∷ 1 ∷ []) ∷ forward_to 2 6 (0 ∷ 0 ∷ 1 ∷ 1 ∷ []) (1 ∷ 1 ∷ []) ∷ []
-  pub earliest-of : map earliest ([] ∷ (7 ∷ []) ∷ (3 ∷ 5 ∷ 4 ∷ []) ∷ (5 ∷ 3 ∷ 4 ∷ []) ∷ (5 ∷ 4 ∷ 3 ∷ []) ∷ []) ≡ 0 ∷ 7 ∷ 3 ∷ 3 ∷ 3 ∷ []
+  pub earliest_of : map earliest ([] ∷ (7 ∷ []) ∷ (3 ∷ 5 ∷ 4 ∷ []) ∷ (5 ∷ 3 ∷ 4 ∷ []) ∷ (5 ∷ 4 ∷ 3 ∷ []) ∷ []) ≡ 0 ∷ 7 ∷ 3 ∷ 3 ∷ 3 ∷ []
   -- each from its own intake, and not all from the earliest, at time 0, from which object 0 reaches subject 1
   pub own_intakes : written_forward (0 ∷ 2 ∷ []) ≡ forward_to 2 0 (0 ∷ 0 ∷ 1 ∷ 1 ∷ []) (1 ∷ 0 ∷ 1 ∷ [])
   -- "an empty list marks nothing": 0 below the counts, and past them as it was; "0 for an empty list"
@@ -77,7 +77,7 @@ pub record MemberCases : Type 0 where
   pub empty_unsound : forward_of (used 1) unsound [] 5 (9 ∷ 9 ∷ []) (9 ∷ 9 ∷ []) ≡ forward_refused 16 2 2
   pub empty_16_14 : (forward_of (used 1) unsound [] 5 [] []).answer ≡ record { refusal = 16; count = 0; intake = 0 }
   pub empty_work_short : forward_in 6 4 [] 5 ≡ forward_refused 14 6 4
-  pub empty_marks-short : forward_in 7 3 [] 5 ≡ forward_refused 14 7 3
+  pub empty_marks_short : forward_in 7 3 [] 5 ≡ forward_refused 14 7 3
   -- "One undeclared member gives 5", at the beginning, in the middle and at the end; nothing is written
   pub undeclared : traces_in ((4 ∷ 1 ∷ 2 ∷ []) ∷ (1 ∷ 4 ∷ 2 ∷ []) ∷ (1 ∷ 2 ∷ 4 ∷ []) ∷ (1 ∷ 1 ∷ 4294967295 ∷ []) ∷ [])
       ≡ forward_refused 5 8 5 ∷ forward_refused 5 8 5 ∷ forward_refused 5 8 5 ∷ forward_refused 5 8 5 ∷ []

@@ -73,8 +73,8 @@ grown_then_declared = taken_in (declarations ++ (take 60 grown_events ++ declare
 
 pub record RecordCases : Type 0 where
   -- "A declaration adds the entity and its first version (start 0, end 0, no previous)."
-  pub declared-counts : (taken_in (declare 0 1)).counts ≡ counts 1 1 0 0 0
-  pub declared-tables : (taken_in (declare 0 1)).tables ≡ tables (1 ∷ 0 ∷ replicate 14 7) (0 ∷ 0 ∷ 0 ∷ none ∷ replicate 28 7) (replicate 48 7)
+  pub declared_counts : (taken_in (declare 0 1)).counts ≡ counts 1 1 0 0 0
+  pub declared_tables : (taken_in (declare 0 1)).tables ≡ tables (1 ∷ 0 ∷ replicate 14 7) (0 ∷ 0 ∷ 0 ∷ none ∷ replicate 28 7) (replicate 48 7)
   -- "for kinds 1, 2, 3, if an edge of any kind goes from the latest version of u to some version of v": to its latest ..
   pub after_read : map (kept_of_two 1) (1 ∷ 3 ∷ 5 ∷ []) ≡ 1 ∷ 1 ∷ 2 ∷ []
   pub after_load : map (kept_of_two 3) (1 ∷ 3 ∷ 5 ∷ []) ≡ 1 ∷ 1 ∷ 2 ∷ []
@@ -90,8 +90,8 @@ pub record RecordCases : Type 0 where
   pub into_older_load : worked_then (event 3 0 1 8) ≡ counts 4 5 4 8 8
   pub into_older_execve : worked_then (event 5 0 1 8) ≡ counts 4 6 5 8 8
   -- 2. and 3. "If v's latest version has no outgoing edge": an older one's edges do not count
-  pub grown-answer : grown.answer ≡ answer 0 10 10
-  pub grown-counts : grown.counts ≡ counts 4 7 6 6 6
+  pub grown_answer : grown.answer ≡ answer 0 10 10
+  pub grown_counts : grown.counts ≡ counts 4 7 6 6 6
   pub grown_entities : grown.tables.entities ≡ 0 ∷ 0 ∷ 1 ∷ 6 ∷ 0 ∷ 5 ∷ 0 ∷ 3 ∷ replicate 8 7
   pub grown_versions : grown.tables.versions ≡
       0 ∷ 0 ∷ 0 ∷ none
@@ -121,7 +121,7 @@ pub record RecordCases : Type 0 where
       0 ∷ 1 ∷ 3 ∷ 1 ∷ 2 ∷ 2
       ∷ 0 ∷ 1 ∷ 5 ∷ 3 ∷ 2 ∷ 4
       ∷ replicate 36 7
-  pub counted-writes : (taken_in (declare 0 1 ++ (declare 1 0 ++ (event 2 0 1 1 ++ event 2 0 1 2)))).tables.edges ≡ 0 ∷ 1 ∷ 2 ∷ 1 ∷ 2 ∷ 2 ∷ replicate 42 7
+  pub counted_writes : (taken_in (declare 0 1 ++ (declare 1 0 ++ (event 2 0 1 1 ++ event 2 0 1 2)))).tables.edges ≡ 0 ∷ 1 ∷ 2 ∷ 1 ∷ 2 ∷ 2 ∷ replicate 42 7
   -- times of four bytes
   pub kept_late : edges_of_two (read_at 255 255 255 255) ≡ 0 ∷ 1 ∷ 1 ∷ 4294967295 ∷ 1 ∷ 4294967295 ∷ replicate 42 7
   pub counted_late : edges_of_two (event 1 0 1 1 ++ read_at 255 255 255 255) ≡ 0 ∷ 1 ∷ 1 ∷ 1 ∷ 2 ∷ 4294967295 ∷ replicate 42 7
@@ -137,7 +137,7 @@ pub record RecordCases : Type 0 where
   pub unused_repeats : after_unused (event 1 0 1 6) ≡ counts 2 2 1 1 6
   pub unused_leaves : after_unused (event 2 1 0 6) ≡ counts 2 2 1 1 6
   -- an entity declared after events: its first version's number is not its own
-  pub declared-after : (batch_of (versions_used 5) (longer 2 4 6) (header ++ declare 4 1)).counts ≡ counts 5 6 5 7 9
+  pub declared_after : (batch_of (versions_used 5) (longer 2 4 6) (header ++ declare 4 1)).counts ≡ counts 5 6 5 7 9
   pub late_answer : grown_then_declared.answer ≡ answer 0 10 10
   pub late_counts : grown_then_declared.counts ≡ counts 5 7 5 5 5
   pub late_entities : map (entity_at grown_then_declared.tables.entities) (0 ∷ 1 ∷ 2 ∷ 3 ∷ 4 ∷ []) ≡ entity_row 0 0 ∷ entity_row 1 4 ∷ entity_row 0 5 ∷ entity_row 0 3 ∷ entity_row 1 6 ∷ []

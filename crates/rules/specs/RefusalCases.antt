@@ -72,7 +72,7 @@ pub record RefusalCases : Type 0 where
   pub time : map (event_refusal 1 0 1) (0 ∷ 8 ∷ 9 ∷ 10 ∷ []) ≡ 9 ∷ 9 ∷ 0 ∷ 0 ∷ []
   -- "13. Accepted is 1,000,000."
   pub accepted_kept : map (λ n. (kept_after n).answer.refusal) (999999 ∷ 1000000 ∷ []) ≡ 0 ∷ 13 ∷ []
-  pub accepted-repeated : map (λ n. (repeated_after n).answer.refusal) (999999 ∷ 1000000 ∷ []) ≡ 0 ∷ 13 ∷ []
+  pub accepted_repeated : map (λ n. (repeated_after n).answer.refusal) (999999 ∷ 1000000 ∷ []) ≡ 0 ∷ 13 ∷ []
   pub millionth_kept : (kept_after 999999).counts ≡ counts 4 6 6 1000000 10
   pub millionth_repeated : (repeated_after 999999).counts ≡ counts 4 5 5 1000000 10
   -- an edge that stands for them all
@@ -83,19 +83,19 @@ pub record RefusalCases : Type 0 where
   -- "11. No version row left where one is to be made.": a row has 4 numbers
   pub no_version_row : map (declared_in 2) (0 ∷ 3 ∷ 4 ∷ []) ≡ 11 ∷ 11 ∷ 0 ∷ []
   pub no_new_version : map (λ v. renewed_in v 6) (0 ∷ 3 ∷ 4 ∷ []) ≡ 11 ∷ 11 ∷ 0 ∷ []
-  pub none-to_be_made : map (λ v. widened_in v 6) (0 ∷ 3 ∷ 4 ∷ []) ≡ 0 ∷ 0 ∷ 0 ∷ []
+  pub none_to_be_made : map (λ v. widened_in v 6) (0 ∷ 3 ∷ 4 ∷ []) ≡ 0 ∷ 0 ∷ 0 ∷ []
   -- "12. No edge row left where one is to be kept.": a row has 6 numbers
-  pub no_edge-row : map (widened_in 0) (0 ∷ 5 ∷ 6 ∷ []) ≡ 12 ∷ 12 ∷ 0 ∷ []
-  pub no_edge-row-renewed : map (renewed_in 4) (0 ∷ 5 ∷ 6 ∷ []) ≡ 12 ∷ 12 ∷ 0 ∷ []
+  pub no_edge_row : map (widened_in 0) (0 ∷ 5 ∷ 6 ∷ []) ≡ 12 ∷ 12 ∷ 0 ∷ []
+  pub no_edge_row_renewed : map (renewed_in 4) (0 ∷ 5 ∷ 6 ∷ []) ≡ 12 ∷ 12 ∷ 0 ∷ []
   -- a read and a load repeat what an edge gave, and want no row; an execve, a fork and a first write want one
-  pub full-from_object : map (full_refusal 0 1) (1 ∷ 3 ∷ 5 ∷ []) ≡ 0 ∷ 0 ∷ 12 ∷ []
+  pub full_from_object : map (full_refusal 0 1) (1 ∷ 3 ∷ 5 ∷ []) ≡ 0 ∷ 0 ∷ 12 ∷ []
   pub full_fork : full_refusal 1 2 4 ≡ 12
-  pub full-write : full_refusal 1 0 2 ≡ 12
+  pub full_write : full_refusal 1 0 2 ≡ 12
   -- a load that repeats a read, at a full edge table
   pub full_load : (batch_of (used 1) full (header ++ event 3 0 1 6)).counts ≡ counts 2 2 1 2 6
   -- a refused batch leaves the counts and the tables
-  pub unsound-left : batch_of (used 1) unsound (file 1) ≡ record { answer = answer 16 0 0; counts = used 1; tables = unsound }
-  pub header-left : batch_of (used 1) full [] ≡ record { answer = answer 1 0 0; counts = used 1; tables = full }
+  pub unsound_left : batch_of (used 1) unsound (file 1) ≡ record { answer = answer 16 0 0; counts = used 1; tables = unsound }
+  pub header_left : batch_of (used 1) full [] ≡ record { answer = answer 1 0 0; counts = used 1; tables = full }
   pub repeat_left : batch_of (used most_accepted) (full_of most_accepted) (header ++ event 1 0 1 6)
       ≡ record { answer = answer 13 0 0; counts = used most_accepted; tables = full_of most_accepted }
   pub record_left : batch_of (used 1) full (header ++ event 2 1 0 6) ≡ record { answer = answer 12 0 0; counts = used 1; tables = full }

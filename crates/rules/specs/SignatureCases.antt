@@ -66,9 +66,9 @@ pub record SignatureCases : Type 0 where
   pub versions_256 : map (λ v. signed_after v 1) (0 ∷ 1 ∷ 2 ∷ 3 ∷ []) ≡ replicate 4 (answer 2 0 0)
   pub version_512 : signed_after 0 2 ≡ answer 2 0 0
   -- the header of version 2 with 1 at each byte in turn, and cut
-  pub header-bytes : map (λ i. (batch_of fresh_counts no_rows (set header_2 i 1)).answer.refusal) (0 ∷ 1 ∷ 2 ∷ 3 ∷ 4 ∷ 5 ∷ 6 ∷ 7 ∷ [])
+  pub header_bytes : map (λ i. (batch_of fresh_counts no_rows (set header_2 i 1)).answer.refusal) (0 ∷ 1 ∷ 2 ∷ 3 ∷ 4 ∷ 5 ∷ 6 ∷ 7 ∷ [])
       ≡ 1 ∷ 1 ∷ 1 ∷ 0 ∷ 2 ∷ 1 ∷ 1 ∷ 1 ∷ []
-  pub header-length : map (λ n. (batch_of fresh_counts no_rows (take n header_2)).answer) (0 ∷ 7 ∷ 8 ∷ [])
+  pub header_length : map (λ n. (batch_of fresh_counts no_rows (take n header_2)).answer) (0 ∷ 7 ∷ 8 ∷ [])
       ≡ answer 1 0 0 ∷ answer 1 0 0 ∷ answer 0 0 0 ∷ []
   -- "One to 11 bytes remain."
   pub cut_short : map (λ n. (taken_in_2 (declare 0 0 ++ take n (sign 0))).answer) (0 ∷ 1 ∷ 2 ∷ 11 ∷ 12 ∷ [])

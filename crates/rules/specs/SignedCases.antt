@@ -90,9 +90,9 @@ written_then_signed = declare 0 0 ++ (declare 1 1 ++ (event 2 1 0 1 ++ (event 2 
 
 pub record SignedCases : Type 0 where
   -- "The entity's sort becomes 2, ..; accepted and the last time stay.": the worked file and the signature of the report
-  pub signed-answer : signed_worked.answer ≡ answer 0 12 11
-  pub signed-counts : signed_worked.counts ≡ counts 4 5 4 7 7
-  pub signed-tables : signed_worked.tables ≡ signed_tables
+  pub signed_answer : signed_worked.answer ≡ answer 0 12 11
+  pub signed_counts : signed_worked.counts ≡ counts 4 5 4 7 7
+  pub signed_tables_lem : signed_worked.tables ≡ signed_tables
   -- in a file of its own
   pub signed_next : batch_of (worked_batch 8).counts (worked_batch 8).tables (header_2 ++ sign 2)
       ≡ record { answer = answer 0 1 0; counts = counts 4 5 4 7 7; tables = signed_tables }
@@ -103,7 +103,7 @@ pub record SignedCases : Type 0 where
   -- the latest version stays: the second of the report, version 5, in the trail of RecordCases
   pub latest_stays : (taken_in_2 (declarations ++ (grown_events ++ sign 2))).tables.entities ≡ 0 ∷ 0 ∷ 1 ∷ 6 ∷ 2 ∷ 5 ∷ 0 ∷ 3 ∷ replicate 8 7
   -- traces are as before: P2 to P5
-  pub signed-backward : map (λ t. (backward_of (counts 4 5 4 7 7) signed_tables 2 t (replicate 5 9) (replicate 4 9)).marks) (1 ∷ 4 ∷ 5 ∷ 6 ∷ [])
+  pub signed_backward : map (λ t. (backward_of (counts 4 5 4 7 7) signed_tables 2 t (replicate 5 9) (replicate 4 9)).marks) (1 ∷ 4 ∷ 5 ∷ 6 ∷ [])
       ≡ (0 ∷ 0 ∷ 1 ∷ 0 ∷ []) ∷ (1 ∷ 1 ∷ 1 ∷ 0 ∷ []) ∷ (1 ∷ 1 ∷ 1 ∷ 0 ∷ []) ∷ (1 ∷ 1 ∷ 1 ∷ 1 ∷ []) ∷ []
   pub backward_whole : backward_of (counts 4 5 4 7 7) signed_tables 2 6 (replicate 6 9) (replicate 5 9)
       ≡ backward_to 4 (1 ∷ 1 ∷ 1 ∷ 1 ∷ 1 ∷ 9 ∷ []) (1 ∷ 1 ∷ 1 ∷ 1 ∷ 9 ∷ [])
@@ -111,16 +111,16 @@ pub record SignedCases : Type 0 where
       ≡ forward_to 3 0 (0 ∷ 0 ∷ 1 ∷ 1 ∷ 1 ∷ 9 ∷ []) (0 ∷ 1 ∷ 1 ∷ 1 ∷ 9 ∷ [])
   -- "Signing a subject gives 8, an unknown entity 5": of object 0 and subject 1
   pub signs_each : map (signs (used 1) full) (0 ∷ 1 ∷ 2 ∷ 9 ∷ 255 ∷ []) ≡ answer 0 1 0 ∷ answer 8 0 0 ∷ replicate 3 (answer 5 0 0)
-  pub signs-fresh : map (λ t. signs fresh_counts t 0) (no_rows ∷ full ∷ signed_full ∷ []) ≡ replicate 3 (answer 5 0 0)
+  pub signs_fresh : map (λ t. signs fresh_counts t 0) (no_rows ∷ full ∷ signed_full ∷ []) ≡ replicate 3 (answer 5 0 0)
   -- "checked 5 then 8": rows past the counts, of an object, a subject and a signed object
   pub signs_past : map (λ n. signs one_used (past_used 0 n) 1) (0 ∷ 1 ∷ 2 ∷ []) ≡ replicate 3 (answer 5 0 0)
   -- "17, .. a second signature": in the same file, in the next, after another's and after a read
   pub second : (taken_in_2 (declare 0 0 ++ (sign 0 ++ sign 0))).answer ≡ answer 17 2 0
   pub second_next : batch_of (used 1) signed_full (header_2 ++ sign 0) ≡ record { answer = answer 17 0 0; counts = used 1; tables = signed_full }
   pub second_of_two : (taken_in_2 (declare 0 0 ++ (declare 1 0 ++ (sign 1 ++ (sign 0 ++ sign 1))))).answer ≡ answer 17 4 0
-  pub second_after-read : (taken_in_2 (declare 0 0 ++ (declare 1 1 ++ (sign 0 ++ (event 1 0 1 1 ++ sign 0))))).answer ≡ answer 17 4 0
+  pub second_after_read : (taken_in_2 (declare 0 0 ++ (declare 1 1 ++ (sign 0 ++ (event 1 0 1 1 ++ sign 0))))).answer ≡ answer 17 4 0
   -- 16 comes first, and 4 before 5, 8 and 17: a zero field, a file of version 1
-  pub signs-unsound : (batch_of (used 1) unsound (header_2 ++ sign 9)).answer ≡ answer 16 0 0
+  pub signs_unsound : (batch_of (used 1) unsound (header_2 ++ sign 9)).answer ≡ answer 16 0 0
   pub signs_field : map (λ x. (batch_of (used 1) signed_full (header_2 ++ set (sign x) 4 1)).answer) (0 ∷ 1 ∷ 9 ∷ []) ≡ replicate 3 (answer 4 0 0)
   pub signs_in_1 : map (λ x. (batch_of (used 1) signed_full (header ++ sign x)).answer) (0 ∷ 1 ∷ 9 ∷ []) ≡ replicate 3 (answer 4 0 0)
   -- a signature wants no row, and 13 and 9 are about events: full tables, 1,000,000 accepted, the greatest time
@@ -135,11 +135,11 @@ pub record SignedCases : Type 0 where
             (0 ∷ 1 ∷ 1 ∷ 4294967295 ∷ 1 ∷ 4294967295 ∷ replicate 42 7);
       }
   -- "17, an event into a signed object": kinds 1 to 5 into it, by a subject and by an object, "directly after 8"
-  pub into-signed : map (λ k. signed_refusal k 1 0 10) (1 ∷ 2 ∷ 3 ∷ 4 ∷ 5 ∷ []) ≡ 8 ∷ 17 ∷ 8 ∷ 8 ∷ 8 ∷ []
+  pub into_signed : map (λ k. signed_refusal k 1 0 10) (1 ∷ 2 ∷ 3 ∷ 4 ∷ 5 ∷ []) ≡ 8 ∷ 17 ∷ 8 ∷ 8 ∷ 8 ∷ []
   pub from_object : map (λ k. signed_refusal k 3 0 10) (1 ∷ 2 ∷ 3 ∷ 4 ∷ 5 ∷ []) ≡ replicate 5 8
   -- out of it, to a subject and to an object: it "still counts as an object"
-  pub out_of-signed : map (λ k. signed_refusal k 0 1 10) (1 ∷ 2 ∷ 3 ∷ 4 ∷ 5 ∷ []) ≡ 0 ∷ 8 ∷ 0 ∷ 8 ∷ 0 ∷ []
-  pub signed-to_object : map (λ k. signed_refusal k 0 3 10) (1 ∷ 2 ∷ 3 ∷ 4 ∷ 5 ∷ []) ≡ replicate 5 8
+  pub out_of_signed : map (λ k. signed_refusal k 0 1 10) (1 ∷ 2 ∷ 3 ∷ 4 ∷ 5 ∷ []) ≡ 0 ∷ 8 ∷ 0 ∷ 8 ∷ 0 ∷ []
+  pub signed_to_object : map (λ k. signed_refusal k 0 3 10) (1 ∷ 2 ∷ 3 ∷ 4 ∷ 5 ∷ []) ≡ replicate 5 8
   -- into another object, and among subjects
   pub into_another : map (λ k. signed_refusal k 1 3 10) (1 ∷ 2 ∷ 3 ∷ 4 ∷ 5 ∷ []) ≡ 8 ∷ 0 ∷ 8 ∷ 8 ∷ 8 ∷ []
   pub among_subjects : map (λ k. signed_refusal k 1 2 10) (1 ∷ 2 ∷ 3 ∷ 4 ∷ 5 ∷ []) ≡ 8 ∷ 8 ∷ 8 ∷ 0 ∷ 8 ∷ []
@@ -149,7 +149,7 @@ pub record SignedCases : Type 0 where
   -- a row of sort 2 past the counts is no signed object
   pub write_past : map (λ n. (batch_of one_used (past_used 1 n) (header ++ event 2 0 1 6)).answer) (0 ∷ 1 ∷ 2 ∷ []) ≡ replicate 3 (answer 5 0 0)
   -- 17 before 9
-  pub write-times : map (signed_refusal 2 1 0) (0 ∷ 8 ∷ 9 ∷ 10 ∷ []) ≡ replicate 4 17
+  pub write_times : map (signed_refusal 2 1 0) (0 ∷ 8 ∷ 9 ∷ 10 ∷ []) ≡ replicate 4 17
   -- in a file of version 1, too; a write that would widen a version, into a signed object from which nothing was read
   pub write_in_1 : map (λ v. (batch_of (versions_used 5) (room_sorted 2 0) (header ++ event 2 1 v 10)).answer.refusal) (0 ∷ 3 ∷ []) ≡ 17 ∷ 0 ∷ []
   pub write_not_read : map (λ n. (batch_of (versions_used 5) (room_sorted 0 n) (header_2 ++ event 2 1 3 10)).answer.refusal) (0 ∷ 2 ∷ []) ≡ 0 ∷ 17 ∷ []
@@ -166,7 +166,7 @@ pub record SignedCases : Type 0 where
   pub r17_repeat : map (λ t. (signed_then (event 2 1 2 t)).answer) (6 ∷ 7 ∷ 8 ∷ []) ≡ replicate 3 (answer 17 12 11)
   pub r17_13_repeat : Refuses (used most_accepted) signed_target (event 2 0 1 6) Signed 0
   -- what is refused leaves the counts and the tables
-  pub write-left : batch_of (used 1) signed_full (header ++ event 2 1 0 6) ≡ record { answer = answer 17 0 0; counts = used 1; tables = signed_full }
+  pub write_left : batch_of (used 1) signed_full (header ++ event 2 1 0 6) ≡ record { answer = answer 17 0 0; counts = used 1; tables = signed_full }
   pub repeat_left : signed_then (event 2 1 2 8) ≡ record { answer = answer 17 12 11; counts = counts 4 5 4 7 7; tables = signed_tables }
   -- a read, a load and an execve out of the report, at 8: the stager's third version
   pub out_answers : map (λ k. (signed_then (event k 2 1 8)).answer) (1 ∷ 3 ∷ 5 ∷ []) ≡ answer 0 13 15 ∷ answer 0 13 15 ∷ answer 0 13 11 ∷ []

@@ -72,38 +72,38 @@ signed_calls = batch signed_tables (header ++ event 2 1 2 8) ∷ batch (worked_b
 
 pub record SignedListCases : Type 0 where
   -- the plain list: a signature is a record taken in, and no event
-  pub plain-signed : signed_plain [] ≡ worked_signed
-  pub plain-items : map items_of (signed_plain [] ∷ first_plain ∷ []) ≡ replicate 2 worked_items
-  pub plain-accepted : times_of (accepted (items_of (signed_plain []))) ≡ 7 ∷ 6 ∷ 5 ∷ 4 ∷ 3 ∷ 2 ∷ 1 ∷ []
+  pub plain_signed : signed_plain [] ≡ worked_signed
+  pub plain_items : map items_of (signed_plain [] ∷ first_plain ∷ []) ≡ replicate 2 worked_items
+  pub plain_accepted : times_of (accepted (items_of (signed_plain []))) ≡ 7 ∷ 6 ∷ 5 ∷ 4 ∷ 3 ∷ 2 ∷ 1 ∷ []
   pub plain_kept : times_of (kept_events (items_of (signed_plain []))) ≡ 6 ∷ 5 ∷ 2 ∷ 1 ∷ []
   pub plain_tried : map tried_over (signed_plain [] ∷ first_plain ∷ []) ≡ 11 ∷ 11 ∷ []
   pub plain_stand : map (λ rs. stand_times rs (0 ∷ 1 ∷ 2 ∷ 3 ∷ [])) (signed_plain [] ∷ first_plain ∷ [])
       ≡ replicate 2 ((3 ∷ 1 ∷ []) ∷ (4 ∷ 2 ∷ []) ∷ (7 ∷ 5 ∷ []) ∷ (6 ∷ []) ∷ [])
-  pub plain-counts : (worked (signed_plain [])).counts ≡ counts 4 5 4 7 7
+  pub plain_counts : (worked (signed_plain [])).counts ≡ counts 4 5 4 7 7
   pub plain_entities : map (worked (signed_plain [])).entity (0 ∷ 1 ∷ 2 ∷ 3 ∷ []) ≡ entity_row 0 0 ∷ entity_row 1 4 ∷ entity_row 2 2 ∷ entity_row 0 3 ∷ []
   -- without its signatures, the list of the worked file
-  pub plain-unsigned : map unsigned (signed_plain [] ∷ first_plain ∷ worked_records ∷ []) ≡ replicate 3 worked_records
-  pub plain-worked : added_by room_for [] (file 1) ≡ worked_records
+  pub plain_unsigned : map unsigned (signed_plain [] ∷ first_plain ∷ worked_records ∷ []) ≡ replicate 3 worked_records
+  pub plain_worked : added_by room_for [] (file 1) ≡ worked_records
   -- after the signature: nothing; a write of the report, a second signature, one of a subject, one of an unknown entity; a read of the report
   pub plain_refused : map refused_plain ([] ∷ event 2 1 2 8 ∷ sign 2 ∷ sign 1 ∷ sign 4 ∷ event 1 2 1 8 ∷ []) ≡ 0 ∷ 17 ∷ 17 ∷ 8 ∷ 5 ∷ 0 ∷ []
   pub plain_not_added : map signed_plain (event 2 1 2 8 ∷ sign 2 ∷ sign 1 ∷ sign 4 ∷ []) ≡ replicate 4 worked_signed
-  pub plain-added : signed_plain (event 1 2 1 8) ≡ report_read ∷ worked_signed
-  pub added-after : map (added room_for worked_signed) ((report_written ∷ []) ∷ (report_read ∷ report_written ∷ []) ∷ [])
+  pub plain_added : signed_plain (event 1 2 1 8) ≡ report_read ∷ worked_signed
+  pub added_after : map (added room_for worked_signed) ((report_written ∷ []) ∷ (report_read ∷ report_written ∷ []) ∷ [])
       ≡ worked_signed ∷ (report_read ∷ worked_signed) ∷ []
   pub added_before : added room_for worked_records (report_written ∷ signature_record 2 ∷ []) ≡ signature_record 2 ∷ report_written ∷ worked_records
   -- "Version 1 files may not."
   pub plain_in_1 : added_by room_for [] (file 1 ++ sign 2) ≡ worked_records
   pub refused_in_1 : number_of (refused_by room_for [] (file 1 ++ sign 2)) ≡ 4
   -- the worked file, the signature and the write in batches of their own
-  pub calls-plain : plain_after signed_calls ≡ worked_signed
-  pub calls-counts : (held_after signed_calls).counts ≡ counts 4 5 4 7 7
-  pub calls-tables : (held_after signed_calls).tables ≡ signed_tables
+  pub calls_plain : plain_after signed_calls ≡ worked_signed
+  pub calls_counts : (held_after signed_calls).counts ≡ counts 4 5 4 7 7
+  pub calls_tables : (held_after signed_calls).tables ≡ signed_tables
   -- the listing: as without the signature; a write of the report after it; a second signature; one of a subject, of an unknown entity, and
   -- in a file of version 1
-  pub listed-signed : listing_of (signed_file []) ≡ text "trail 4 5 4 7 7\nedge 0 1 1 1\nedge 1 2 2 2\nedge 3 4 1 5\nedge 4 2 2 6\n"
-  pub listed-write : listing_of (signed_file (event 2 1 2 8))
+  pub listed_signed : listing_of (signed_file []) ≡ text "trail 4 5 4 7 7\nedge 0 1 1 1\nedge 1 2 2 2\nedge 3 4 1 5\nedge 4 2 2 6\n"
+  pub listed_write : listing_of (signed_file (event 2 1 2 8))
       ≡ text "trail 4 5 4 7 7\nedge 0 1 1 1\nedge 1 2 2 2\nedge 3 4 1 5\nedge 4 2 2 6\nrefused 17 13\n"
   pub listed_second : listing_of (header_2 ++ (declare 0 0 ++ (sign 0 ++ sign 0))) ≡ text "trail 1 1 0 0 0\nrefused 17 3\n"
   pub listed_subject : listing_of (header_2 ++ (declare 0 1 ++ sign 0)) ≡ text "trail 1 1 0 0 0\nrefused 8 2\n"
-  pub listed-unknown : listing_of (header_2 ++ sign 0) ≡ text "trail 0 0 0 0 0\nrefused 5 1\n"
+  pub listed_unknown : listing_of (header_2 ++ sign 0) ≡ text "trail 0 0 0 0 0\nrefused 5 1\n"
   pub listed_in_1 : listing_of (header ++ (declare 0 0 ++ sign 0)) ≡ text "trail 1 1 0 0 0\nrefused 4 2\n"

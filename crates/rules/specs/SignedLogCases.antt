@@ -53,10 +53,10 @@ pub record SignedLogCases : Type 0 where
   pub subject_1 : entity_is 1 2 3 ≡ false
   pub subject_2 : entity_is 2 2 2 ≡ false
   -- another last edge, of kinds 0 to 6: from object 0 to subject 1, from subject 1 to object 0, between objects
-  pub edge-from-signed : map (sorted_edge 2 0 0 3) (0 ∷ 1 ∷ 2 ∷ 3 ∷ 4 ∷ 5 ∷ 6 ∷ []) ≡ false ∷ true ∷ false ∷ true ∷ false ∷ true ∷ false ∷ []
-  pub edge-to-signed : map (sorted_edge 2 0 3 0) (0 ∷ 1 ∷ 2 ∷ 3 ∷ 4 ∷ 5 ∷ 6 ∷ []) ≡ false ∷ false ∷ true ∷ replicate 4 false
-  pub edge-signed-to_object : map (sorted_edge 2 0 0 4) (0 ∷ 1 ∷ 2 ∷ 3 ∷ 4 ∷ 5 ∷ 6 ∷ []) ≡ replicate 7 false
-  pub edge_object_to-signed : map (sorted_edge 2 0 4 0) (0 ∷ 1 ∷ 2 ∷ 3 ∷ 4 ∷ 5 ∷ 6 ∷ []) ≡ replicate 7 false
+  pub edge_from_signed : map (sorted_edge 2 0 0 3) (0 ∷ 1 ∷ 2 ∷ 3 ∷ 4 ∷ 5 ∷ 6 ∷ []) ≡ false ∷ true ∷ false ∷ true ∷ false ∷ true ∷ false ∷ []
+  pub edge_to_signed : map (sorted_edge 2 0 3 0) (0 ∷ 1 ∷ 2 ∷ 3 ∷ 4 ∷ 5 ∷ 6 ∷ []) ≡ false ∷ false ∷ true ∷ replicate 4 false
+  pub edge_signed_to_object : map (sorted_edge 2 0 0 4) (0 ∷ 1 ∷ 2 ∷ 3 ∷ 4 ∷ 5 ∷ 6 ∷ []) ≡ replicate 7 false
+  pub edge_object_to_signed : map (sorted_edge 2 0 4 0) (0 ∷ 1 ∷ 2 ∷ 3 ∷ 4 ∷ 5 ∷ 6 ∷ []) ≡ replicate 7 false
   pub edge_between_signed : map (sorted_edge 2 2 0 4) (0 ∷ 1 ∷ 2 ∷ 3 ∷ 4 ∷ 5 ∷ 6 ∷ []) ≡ replicate 7 false
   -- a batch is refused for sort 3, and not for sort 2
   pub sort_3 : map (λ s. (batch_of (used 1) (tables (s ∷ 0 ∷ 1 ∷ 1 ∷ []) full.versions full.edges) header).answer) (0 ∷ 1 ∷ 2 ∷ 3 ∷ [])
@@ -64,11 +64,11 @@ pub record SignedLogCases : Type 0 where
   -- "The kept log declares a signed object with sort 0, puts signatures last by entity number and is version 2 if there are any"
   pub log_exact : log_after signed_worked 116 ≡ log_of (header_2 ++ (declarations ++ (log_events ++ sign 2))) 116
   -- "Bytes after it are untouched." "15. Output shorter than the kept log."; without the signature it has 104 bytes
-  pub log-longer : log_after signed_worked 118 ≡ log_of (header_2 ++ (declarations ++ (log_events ++ (sign 2 ++ (9 ∷ 9 ∷ []))))) 116
-  pub log-short : map (log_after signed_worked) (104 ∷ 115 ∷ []) ≡ log_refused 15 104 ∷ log_refused 15 115 ∷ []
+  pub log_longer : log_after signed_worked 118 ≡ log_of (header_2 ++ (declarations ++ (log_events ++ (sign 2 ++ (9 ∷ 9 ∷ []))))) 116
+  pub log_short : map (log_after signed_worked) (104 ∷ 115 ∷ []) ≡ log_refused 15 104 ∷ log_refused 15 115 ∷ []
   -- "else version 1", though the file was of version 2
-  pub log-none : log_after (taken_in_2 (declarations ++ events 1)) 104 ≡ log_of (header ++ (declarations ++ log_events)) 104
-  pub log-none_empty : log_after (taken_in_2 []) 8 ≡ log_of header 8
+  pub log_none : log_after (taken_in_2 (declarations ++ events 1)) 104 ≡ log_of (header ++ (declarations ++ log_events)) 104
+  pub log_none_empty : log_after (taken_in_2 []) 8 ≡ log_of header 8
   -- a row of sort 2 past the counts is no signed object
   pub log_past : kept_log_of one_used (past_used 0 2) (replicate 20 9) ≡ log_of (header ++ declare 0 0) 20
   -- of the tables of SoundCases, with the first entity signed, the last, and both; with sort 3 they are not sound
@@ -76,23 +76,23 @@ pub record SignedLogCases : Type 0 where
   pub log_3 : sorted_log 0 2 128 ≡ log_of (header_2 ++ (sound_declared ++ (sound_events ++ sign 3))) 128
   pub log_two : sorted_log 2 2 140 ≡ log_of (header_2 ++ (sound_declared ++ (sound_events ++ (sign 0 ++ sign 3)))) 140
   pub log_two_short : sorted_log 2 2 139 ≡ log_refused 15 139
-  pub log-sort_3 : sorted_log 3 0 140 ≡ log_refused 16 140
+  pub log_sort_3 : sorted_log 3 0 140 ≡ log_refused 16 140
   -- "by entity number", whichever was signed first; "last", though an event came after the signature
-  pub log-turned : map (λ s. log_after (taken_in_2 (declarations ++ s)) 80) ((sign 0 ++ sign 3) ∷ (sign 3 ++ sign 0) ∷ [])
+  pub log_turned : map (λ s. log_after (taken_in_2 (declarations ++ s)) 80) ((sign 0 ++ sign 3) ∷ (sign 3 ++ sign 0) ∷ [])
       ≡ replicate 2 (log_of (header_2 ++ (declarations ++ (sign 0 ++ sign 3))) 80)
-  pub log-last : log_after signed_between 68 ≡ log_of (header_2 ++ (declare 0 1 ++ (declare 1 0 ++ (event 2 0 1 1 ++ (event 1 1 0 2 ++ sign 1))))) 68
+  pub log_last : log_after signed_between 68 ≡ log_of (header_2 ++ (declare 0 1 ++ (declare 1 0 ++ (event 2 0 1 1 ++ (event 1 1 0 2 ++ sign 1))))) 68
   -- "Regrown trails have the same signatures.": 4 declarations, 4 events and a signature
-  pub regrown-answer : regrown.answer ≡ answer 0 9 6
-  pub regrown-counts : regrown.counts ≡ counts 4 5 4 4 6
-  pub regrown-tables : regrown.tables ≡
+  pub regrown_answer : regrown.answer ≡ answer 0 9 6
+  pub regrown_counts : regrown.counts ≡ counts 4 5 4 4 6
+  pub regrown_tables : regrown.tables ≡
       tables signed_tables.entities signed_tables.versions
       (0 ∷ 1 ∷ 1 ∷ 1 ∷ 1 ∷ 1
       ∷ 1 ∷ 2 ∷ 2 ∷ 2 ∷ 1 ∷ 2
       ∷ 3 ∷ 4 ∷ 1 ∷ 5 ∷ 1 ∷ 5
       ∷ 4 ∷ 2 ∷ 2 ∷ 6 ∷ 1 ∷ 6
       ∷ replicate 24 7)
-  pub regrown-log : log_after regrown 116 ≡ log_of (header_2 ++ (declarations ++ (log_events ++ sign 2))) 116
-  pub regrown-write : (batch_of regrown.counts regrown.tables (header ++ event 2 1 2 8)).answer ≡ answer 17 0 0
+  pub regrown_log : log_after regrown 116 ≡ log_of (header_2 ++ (declarations ++ (log_events ++ sign 2))) 116
+  pub regrown_write : (batch_of regrown.counts regrown.tables (header ++ event 2 1 2 8)).answer ≡ answer 17 0 0
   -- where an event came after the signature: the trail, and regrown
   pub between : signed_between ≡ between_left
   pub regrown_between : batch_of fresh_counts (room 8) (log_after signed_between 68).out ≡ between_left

@@ -90,7 +90,7 @@ previous_is p = sound_with (versions_used 6) (tables entity_rows (put_version (s
 
 pub record SoundCases : Type 0 where
   -- "each count is within capacity"
-  pub full-tables : sound_in 4 5 5 ≡ true
+  pub full_tables : sound_in 4 5 5 ≡ true
   pub entities_within : sound_in 3 5 5 ≡ false
   pub versions_within : sound_in 4 4 5 ≡ false
   pub edges_within : sound_in 4 5 4 ≡ false
@@ -106,8 +106,8 @@ pub record SoundCases : Type 0 where
   -- "a version's entity exists and start ≤ end ≤ last time"
   pub entity_exists : map (λ x. sixth_is x 0 0 none) (3 ∷ 4 ∷ []) ≡ true ∷ false ∷ []
   pub start_end : map (λ t. version_is 3 1 5 t 1) (4 ∷ 5 ∷ []) ≡ false ∷ true ∷ []
-  pub end_last-of_first : map (λ t. version_is 0 0 0 t none) (9 ∷ 10 ∷ []) ≡ true ∷ false ∷ []
-  pub end_last-of_newest : map (λ t. version_is 4 3 0 t none) (9 ∷ 10 ∷ []) ≡ true ∷ false ∷ []
+  pub end_last_of_first : map (λ t. version_is 0 0 0 t none) (9 ∷ 10 ∷ []) ≡ true ∷ false ∷ []
+  pub end_last_of_newest : map (λ t. version_is 4 3 0 t none) (9 ∷ 10 ∷ []) ≡ true ∷ false ∷ []
   -- "previous is none exactly when start is 0"
   pub none_at_zero : map (version_is 3 1 0 9) (none ∷ 1 ∷ []) ≡ true ∷ false ∷ []
   pub none_past_zero : map (λ s. version_is 0 0 s 4 none) (0 ∷ 1 ∷ []) ≡ true ∷ false ∷ []
@@ -132,21 +132,21 @@ pub record SoundCases : Type 0 where
   pub last_time_lem : map (edge_is 4 0 3 5) (7 ∷ 8 ∷ 9 ∷ 10 ∷ []) ≡ false ∷ true ∷ true ∷ false ∷ []
   -- document 02, 2.1: "a count is at least 1"; the count of another edge makes up for it
   pub count_of_first : map (λ m. counts_are 1 m (4 - m)) (0 ∷ 1 ∷ 3 ∷ []) ≡ false ∷ true ∷ true ∷ []
-  pub count_of-none : map (λ k. counts_are k 4 0) (1 ∷ 2 ∷ 3 ∷ 4 ∷ []) ≡ replicate 4 false
+  pub count_of_none : map (λ k. counts_are k 4 0) (1 ∷ 2 ∷ 3 ∷ 4 ∷ []) ≡ replicate 4 false
   pub count_of_three : map (λ k. counts_are k 1 3) (1 ∷ 2 ∷ 3 ∷ 4 ∷ []) ≡ replicate 4 true
   -- "the last time lies between the edge's time and the trail's", of an edge of each kind; no edge need have the trail's
-  pub last-of-read : map (last_is 0) (1 ∷ 2 ∷ 9 ∷ 10 ∷ []) ≡ false ∷ true ∷ true ∷ false ∷ []
-  pub last-of-write : map (last_is 1) (3 ∷ 4 ∷ 9 ∷ 10 ∷ []) ≡ false ∷ true ∷ true ∷ false ∷ []
-  pub last-of_load : map (last_is 2) (4 ∷ 5 ∷ 9 ∷ 10 ∷ []) ≡ false ∷ true ∷ true ∷ false ∷ []
-  pub last-of_fork : map (last_is 3) (7 ∷ 8 ∷ 9 ∷ 10 ∷ []) ≡ false ∷ true ∷ true ∷ false ∷ []
-  pub last-of_execve : map (last_is 4) (8 ∷ 9 ∷ 10 ∷ []) ≡ false ∷ true ∷ false ∷ []
-  pub last-of-none : sound_with (counts 4 5 5 7 10) sound_rows ≡ true
+  pub last_of_read : map (last_is 0) (1 ∷ 2 ∷ 9 ∷ 10 ∷ []) ≡ false ∷ true ∷ true ∷ false ∷ []
+  pub last_of_write : map (last_is 1) (3 ∷ 4 ∷ 9 ∷ 10 ∷ []) ≡ false ∷ true ∷ true ∷ false ∷ []
+  pub last_of_load : map (last_is 2) (4 ∷ 5 ∷ 9 ∷ 10 ∷ []) ≡ false ∷ true ∷ true ∷ false ∷ []
+  pub last_of_fork : map (last_is 3) (7 ∷ 8 ∷ 9 ∷ 10 ∷ []) ≡ false ∷ true ∷ true ∷ false ∷ []
+  pub last_of_execve : map (last_is 4) (8 ∷ 9 ∷ 10 ∷ []) ≡ false ∷ true ∷ false ∷ []
+  pub last_of_none : sound_with (counts 4 5 5 7 10) sound_rows ≡ true
   -- "and the counts sum to accepted", and not only modulo 2^32 or 2^64
   pub sum_with_first : map (λ m. counts_are 1 m 1) (2 ∷ 3 ∷ 4 ∷ []) ≡ false ∷ true ∷ false ∷ []
   pub sum_with_last : map (counts_are 4 3) (1 ∷ 2 ∷ []) ≡ true ∷ false ∷ []
   pub sum_past_32_bits : map (counts_are 1 4294967295) (4 ∷ 5 ∷ 6 ∷ []) ≡ replicate 3 false
   pub sum_past_64_bits : counts_are 1 18446744073709551619 1 ≡ false
-  pub sum_of-none : map no_edge (0 ∷ 1 ∷ []) ≡ true ∷ false ∷ []
+  pub sum_of_none : map no_edge (0 ∷ 1 ∷ []) ≡ true ∷ false ∷ []
   -- rows past the counts are not looked at; "All five zero is a fresh trail, whatever the tables hold."
   pub rows_past : sound_with (versions_used 5) (tables (entity_rows ++ (7 ∷ 7 ∷ [])) (six_versions 7 7 7 7) (edge_rows ++ replicate 6 7)) ≡ true
   pub fresh_trail : sound_with fresh_counts (tables (replicate 2 7) (replicate 4 7) (replicate 6 7)) ≡ true

@@ -93,11 +93,11 @@ pub record TickCases : Type 0 where
             ∷ 1 ∷ 2 ∷ 2 ∷ 1 ∷ 1 ∷ 1
             ∷ replicate 36 7);
       }
-  pub after-pair : map (λ t. (taken_in (read_write ++ event 1 3 1 t)).answer) (0 ∷ 1 ∷ 2 ∷ []) ≡ answer 9 6 1 ∷ answer 0 7 3 ∷ answer 0 7 3 ∷ []
+  pub after_pair : map (λ t. (taken_in (read_write ++ event 1 3 1 t)).answer) (0 ∷ 1 ∷ 2 ∷ []) ≡ answer 9 6 1 ∷ answer 0 7 3 ∷ answer 0 7 3 ∷ []
   pub after_two : map (λ t. (taken_in (read_write ++ (event 1 3 1 2 ++ event 1 0 1 t))).answer) (0 ∷ 1 ∷ 2 ∷ 3 ∷ []) ≡ answer 9 7 3 ∷ answer 9 7 3 ∷ answer 0 8 6 ∷ answer 0 8 6 ∷ []
   -- "The order of acceptance decides what is causal": before, in and after the tick, the report back and the study forward
-  pub pair-backward : map (λ t. (backward_at (taken_in read_write) 2 t).marks) (0 ∷ 1 ∷ 2 ∷ []) ≡ (0 ∷ 0 ∷ 1 ∷ 0 ∷ []) ∷ (1 ∷ 1 ∷ 1 ∷ 0 ∷ []) ∷ (1 ∷ 1 ∷ 1 ∷ 0 ∷ []) ∷ []
-  pub pair-forward : map (λ t. (forward_at (taken_in read_write) 0 t).marks) (0 ∷ 1 ∷ 2 ∷ []) ≡ replicate 3 (1 ∷ 1 ∷ 1 ∷ 0 ∷ [])
+  pub pair_backward : map (λ t. (backward_at (taken_in read_write) 2 t).marks) (0 ∷ 1 ∷ 2 ∷ []) ≡ (0 ∷ 0 ∷ 1 ∷ 0 ∷ []) ∷ (1 ∷ 1 ∷ 1 ∷ 0 ∷ []) ∷ (1 ∷ 1 ∷ 1 ∷ 0 ∷ []) ∷ []
+  pub pair_forward : map (λ t. (forward_at (taken_in read_write) 0 t).marks) (0 ∷ 1 ∷ 2 ∷ []) ≡ replicate 3 (1 ∷ 1 ∷ 1 ∷ 0 ∷ [])
   -- ", so an event never follows one accepted after it": the stager's new version, row 4, starts at 1
   pub turned : taken_in write_read
       ≡ record {
@@ -114,17 +114,17 @@ pub record TickCases : Type 0 where
             ∷ 0 ∷ 4 ∷ 1 ∷ 1 ∷ 1 ∷ 1
             ∷ replicate 36 7);
       }
-  pub turned-backward : map (λ t. (backward_at (taken_in write_read) 2 t).marks) (0 ∷ 1 ∷ 2 ∷ []) ≡ (0 ∷ 0 ∷ 1 ∷ 0 ∷ []) ∷ (0 ∷ 1 ∷ 1 ∷ 0 ∷ []) ∷ (0 ∷ 1 ∷ 1 ∷ 0 ∷ []) ∷ []
-  pub turned-forward : map (λ t. (forward_at (taken_in write_read) 0 t).marks) (0 ∷ 1 ∷ 2 ∷ []) ≡ replicate 3 (1 ∷ 1 ∷ 0 ∷ 0 ∷ [])
+  pub turned_backward : map (λ t. (backward_at (taken_in write_read) 2 t).marks) (0 ∷ 1 ∷ 2 ∷ []) ≡ (0 ∷ 0 ∷ 1 ∷ 0 ∷ []) ∷ (0 ∷ 1 ∷ 1 ∷ 0 ∷ []) ∷ (0 ∷ 1 ∷ 1 ∷ 0 ∷ []) ∷ []
+  pub turned_forward : map (λ t. (forward_at (taken_in write_read) 0 t).marks) (0 ∷ 1 ∷ 2 ∷ []) ≡ replicate 3 (1 ∷ 1 ∷ 0 ∷ 0 ∷ [])
   -- "Forward starts just after the last kept intake with time ≤ t": of the stager, before, in and after the tick
   pub turned_stager : map (forward_at (taken_in write_read) 1) (0 ∷ 1 ∷ 2 ∷ [])
       ≡ forward_to 2 0 (0 ∷ 1 ∷ 1 ∷ 0 ∷ 1 ∷ []) (0 ∷ 1 ∷ 1 ∷ 0 ∷ []) ∷ replicate 2 (forward_to 1 1 (0 ∷ 0 ∷ 0 ∷ 0 ∷ 1 ∷ []) (0 ∷ 1 ∷ 0 ∷ 0 ∷ []))
   -- "never less than the full answer over events later than t": at 1, the read at 1 is not counted, and the study was written after it
-  pub back-forward : map (forward_at (taken_in read_back) 0) (0 ∷ 1 ∷ 2 ∷ [])
+  pub back_forward : map (forward_at (taken_in read_back) 0) (0 ∷ 1 ∷ 2 ∷ [])
       ≡ forward_to 2 0 (1 ∷ 1 ∷ 0 ∷ 0 ∷ 1 ∷ []) (1 ∷ 1 ∷ 0 ∷ 0 ∷ []) ∷ replicate 2 (forward_to 1 1 (0 ∷ 0 ∷ 0 ∷ 0 ∷ 1 ∷ []) (1 ∷ 0 ∷ 0 ∷ 0 ∷ []))
-  pub back-since : map (λ t. sources_of (since 0 t (items_of (plain_of read_back)))) (0 ∷ 1 ∷ []) ≡ (1 ∷ 0 ∷ []) ∷ [] ∷ []
+  pub back_since : map (λ t. sources_of (since 0 t (items_of (plain_of read_back)))) (0 ∷ 1 ∷ []) ≡ (1 ∷ 0 ∷ []) ∷ [] ∷ []
   -- "Edge times and starts along previous need only not fall": versions 4 and 6 of the study start at 1
-  pub turns-taken : taken_in turns
+  pub turns_taken : taken_in turns
       ≡ record {
         answer = answer 0 8 6;
         counts = counts 4 7 4 4 1;
@@ -144,15 +144,15 @@ pub record TickCases : Type 0 where
             ∷ replicate 24 7);
       }
   -- the start version is the last one of the tick
-  pub turns-backward : map (backward_at (taken_in turns) 0) (0 ∷ 1 ∷ [])
+  pub turns_backward : map (backward_at (taken_in turns) 0) (0 ∷ 1 ∷ [])
       ≡ backward_to 1 (1 ∷ 0 ∷ 0 ∷ 0 ∷ 0 ∷ 0 ∷ 0 ∷ []) (1 ∷ 0 ∷ 0 ∷ 0 ∷ []) ∷ backward_to 2 (1 ∷ 1 ∷ 0 ∷ 0 ∷ 1 ∷ 1 ∷ 1 ∷ []) (1 ∷ 1 ∷ 0 ∷ 0 ∷ []) ∷ []
   pub turns_study : map (forward_at (taken_in turns) 0) (0 ∷ 1 ∷ [])
       ≡ forward_to 2 0 (1 ∷ 1 ∷ 0 ∷ 0 ∷ 1 ∷ 1 ∷ 1 ∷ []) (1 ∷ 1 ∷ 0 ∷ 0 ∷ []) ∷ forward_to 1 1 (0 ∷ 0 ∷ 0 ∷ 0 ∷ 0 ∷ 0 ∷ 1 ∷ []) (1 ∷ 0 ∷ 0 ∷ 0 ∷ []) ∷ []
   pub turns_stager : forward_at (taken_in turns) 1 1 ≡ forward_to 2 1 (0 ∷ 0 ∷ 0 ∷ 0 ∷ 0 ∷ 1 ∷ 1 ∷ []) (1 ∷ 1 ∷ 0 ∷ 0 ∷ [])
-  pub turns-since : map (λ u. sources_of (since u 1 (items_of (plain_of turns)))) (0 ∷ 1 ∷ 2 ∷ []) ≡ [] ∷ (1 ∷ []) ∷ (1 ∷ 0 ∷ 1 ∷ 0 ∷ []) ∷ []
+  pub turns_since : map (λ u. sources_of (since u 1 (items_of (plain_of turns)))) (0 ∷ 1 ∷ 2 ∷ []) ≡ [] ∷ (1 ∷ []) ∷ (1 ∷ 0 ∷ 1 ∷ 0 ∷ []) ∷ []
   pub turns_intakes : map (λ u. intake_time u 1 (items_of (plain_of turns))) (0 ∷ 1 ∷ 2 ∷ []) ≡ 1 ∷ 1 ∷ 0 ∷ []
   -- the kept log has the events of the tick in their order
-  pub turns-log : kept_log_of (taken_in turns).counts (taken_in turns).tables (replicate 104 9) ≡ log_of (header ++ turns) 104
+  pub turns_log : kept_log_of (taken_in turns).counts (taken_in turns).tables (replicate 104 9) ≡ log_of (header ++ turns) 104
   -- a repeat in the tick: one edge for both, no intake of the stager, and no event of the log
   pub repeat_counts : (taken_in read_repeat).counts ≡ counts 4 4 2 3 1
   pub repeat_edges : (taken_in read_repeat).tables.edges ≡ 0 ∷ 1 ∷ 1 ∷ 1 ∷ 2 ∷ 1 ∷ 1 ∷ 2 ∷ 2 ∷ 1 ∷ 1 ∷ 1 ∷ replicate 36 7

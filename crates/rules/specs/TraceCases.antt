@@ -83,20 +83,20 @@ chain_forward u = forward_of chain.counts chain.tables (u ∷ []) 0 (replicate 5
 pub record TraceCases : Type 0 where
   -- buffers of exactly the count, and longer: "Bytes past the counts are untouched."
   pub backward_exact : backward_in 7 4 2 5 ≡ backward_to 4 (1 ∷ 1 ∷ 1 ∷ 1 ∷ 1 ∷ 1 ∷ 0 ∷ []) (1 ∷ 1 ∷ 1 ∷ 1 ∷ [])
-  pub backward-longer : backward_in 9 6 2 5 ≡ backward_to 4 (1 ∷ 1 ∷ 1 ∷ 1 ∷ 1 ∷ 1 ∷ 0 ∷ 9 ∷ 9 ∷ []) (1 ∷ 1 ∷ 1 ∷ 1 ∷ 9 ∷ 9 ∷ [])
+  pub backward_longer : backward_in 9 6 2 5 ≡ backward_to 4 (1 ∷ 1 ∷ 1 ∷ 1 ∷ 1 ∷ 1 ∷ 0 ∷ 9 ∷ 9 ∷ []) (1 ∷ 1 ∷ 1 ∷ 1 ∷ 9 ∷ 9 ∷ [])
   pub forward_exact : forward_in 7 4 (3 ∷ []) 0 ≡ forward_to 3 0 (0 ∷ 0 ∷ 0 ∷ 1 ∷ 1 ∷ 1 ∷ 1 ∷ []) (0 ∷ 1 ∷ 1 ∷ 1 ∷ [])
-  pub forward-longer : forward_in 9 6 (3 ∷ []) 0 ≡ forward_to 3 0 (0 ∷ 0 ∷ 0 ∷ 1 ∷ 1 ∷ 1 ∷ 1 ∷ 9 ∷ 9 ∷ []) (0 ∷ 1 ∷ 1 ∷ 1 ∷ 9 ∷ 9 ∷ [])
+  pub forward_longer : forward_in 9 6 (3 ∷ []) 0 ≡ forward_to 3 0 (0 ∷ 0 ∷ 0 ∷ 1 ∷ 1 ∷ 1 ∷ 1 ∷ 9 ∷ 9 ∷ []) (0 ∷ 1 ∷ 1 ∷ 1 ∷ 9 ∷ 9 ∷ [])
   -- "14. Mark or work buffer shorter than its count."
   pub backward_work_short : backward_in 6 4 2 5 ≡ backward_refused 14 6 4
-  pub backward-marks-short : backward_in 7 3 2 5 ≡ backward_refused 14 7 3
+  pub backward_marks_short : backward_in 7 3 2 5 ≡ backward_refused 14 7 3
   pub forward_work_short : forward_in 6 4 (2 ∷ []) 5 ≡ forward_refused 14 6 4
-  pub forward-marks-short : forward_in 7 3 (2 ∷ []) 5 ≡ forward_refused 14 7 3
+  pub forward_marks_short : forward_in 7 3 (2 ∷ []) 5 ≡ forward_refused 14 7 3
   -- "5. Entity not declared."
   pub backward_entity : backward_in 7 4 4 5 ≡ backward_refused 5 7 4
   pub forward_entity : forward_in 7 4 (4 ∷ []) 5 ≡ forward_refused 5 7 4
   -- "16. Tables not sound."
-  pub backward-unsound : backward_of (used 1) unsound 1 5 (9 ∷ 9 ∷ []) (9 ∷ 9 ∷ []) ≡ backward_refused 16 2 2
-  pub forward-unsound : forward_of (used 1) unsound (1 ∷ []) 5 (9 ∷ 9 ∷ []) (9 ∷ 9 ∷ []) ≡ forward_refused 16 2 2
+  pub backward_unsound : backward_of (used 1) unsound 1 5 (9 ∷ 9 ∷ []) (9 ∷ 9 ∷ []) ≡ backward_refused 16 2 2
+  pub forward_unsound : forward_of (used 1) unsound (1 ∷ []) 5 (9 ∷ 9 ∷ []) (9 ∷ 9 ∷ []) ≡ forward_refused 16 2 2
   -- backward from subject 1, of which versions 1, 4 and 6 start at 0, 3 and 6, at each time
   pub backward_0 : backward_in 7 4 1 0 ≡ backward_to 1 (0 ∷ 1 ∷ 0 ∷ 0 ∷ 0 ∷ 0 ∷ 0 ∷ []) (0 ∷ 1 ∷ 0 ∷ 0 ∷ [])
   pub backward_1 : backward_in 7 4 1 1 ≡ backward_to 2 (1 ∷ 1 ∷ 0 ∷ 0 ∷ 0 ∷ 0 ∷ 0 ∷ []) (1 ∷ 1 ∷ 0 ∷ 0 ∷ [])
@@ -105,9 +105,9 @@ pub record TraceCases : Type 0 where
   pub backward_4 : backward_in 7 4 1 4 ≡ backward_to 4 (1 ∷ 1 ∷ 1 ∷ 1 ∷ 1 ∷ 0 ∷ 0 ∷ []) (1 ∷ 1 ∷ 1 ∷ 1 ∷ [])
   pub backward_5 : backward_in 7 4 1 5 ≡ backward_to 4 (1 ∷ 1 ∷ 1 ∷ 1 ∷ 1 ∷ 0 ∷ 0 ∷ []) (1 ∷ 1 ∷ 1 ∷ 1 ∷ [])
   pub backward_6 : backward_in 7 4 1 6 ≡ backward_to 4 (1 ∷ 1 ∷ 1 ∷ 1 ∷ 1 ∷ 0 ∷ 1 ∷ []) (1 ∷ 1 ∷ 1 ∷ 1 ∷ [])
-  pub backward-last : backward_in 7 4 1 4294967295 ≡ backward_to 4 (1 ∷ 1 ∷ 1 ∷ 1 ∷ 1 ∷ 0 ∷ 1 ∷ []) (1 ∷ 1 ∷ 1 ∷ 1 ∷ [])
+  pub backward_last : backward_in 7 4 1 4294967295 ≡ backward_to 4 (1 ∷ 1 ∷ 1 ∷ 1 ∷ 1 ∷ 0 ∷ 1 ∷ []) (1 ∷ 1 ∷ 1 ∷ 1 ∷ [])
   -- from an entity whose version has a number above the entities'
-  pub backward-declared_late : backward_of grown_then_declared.counts grown_then_declared.tables 4 6 (replicate 7 9) (replicate 5 9) ≡ backward_to 1 (0 ∷ 0 ∷ 0 ∷ 0 ∷ 0 ∷ 0 ∷ 1 ∷ []) (0 ∷ 0 ∷ 0 ∷ 0 ∷ 1 ∷ [])
+  pub backward_declared_late : backward_of grown_then_declared.counts grown_then_declared.tables 4 6 (replicate 7 9) (replicate 5 9) ≡ backward_to 1 (0 ∷ 0 ∷ 0 ∷ 0 ∷ 0 ∷ 0 ∷ 1 ∷ []) (0 ∷ 0 ∷ 0 ∷ 0 ∷ 1 ∷ [])
   -- forward from subject 1
   pub forward_2 : forward_in 7 4 (1 ∷ []) 2 ≡ forward_to 2 1 (0 ∷ 1 ∷ 1 ∷ 0 ∷ 1 ∷ 1 ∷ 1 ∷ []) (0 ∷ 1 ∷ 1 ∷ 0 ∷ [])
   pub forward_3 : forward_in 7 4 (1 ∷ []) 3 ≡ forward_to 2 3 (0 ∷ 0 ∷ 0 ∷ 0 ∷ 1 ∷ 1 ∷ 1 ∷ []) (0 ∷ 1 ∷ 1 ∷ 0 ∷ [])
@@ -121,8 +121,8 @@ pub record TraceCases : Type 0 where
   pub intake_start : (forward_of (versions_used 6) not_entered (1 ∷ []) 9 (replicate 6 9) (replicate 4 9)).answer ≡ record { refusal = 0; count = 1; intake = 6 }
   pub intake_greatest : greatest_or 7 (3 ∷ 5 ∷ 4 ∷ []) ≡ 5
   -- by an edge's time, and not by its last time: the worked trail's edges at 1, 2 and 5 were repeated at 3, 4 and 7
-  pub intake_of-repeated : map (λ t. (forward (1 ∷ []) t).answer.intake) (0 ∷ 1 ∷ 2 ∷ 3 ∷ 6 ∷ 7 ∷ []) ≡ 0 ∷ 1 ∷ 1 ∷ 1 ∷ 5 ∷ 5 ∷ []
-  pub backward-repeated : BackwardIs (backward 2 2) 3 (1 ∷ 1 ∷ 1 ∷ 0 ∷ [])
+  pub intake_of_repeated : map (λ t. (forward (1 ∷ []) t).answer.intake) (0 ∷ 1 ∷ 2 ∷ 3 ∷ 6 ∷ 7 ∷ []) ≡ 0 ∷ 1 ∷ 1 ∷ 1 ∷ 5 ∷ 5 ∷ []
+  pub backward_repeated : BackwardIs (backward 2 2) 3 (1 ∷ 1 ∷ 1 ∷ 0 ∷ [])
   -- "from every other marked version, all entering edges", those later than t too
   pub later_edge : map (λ t. (widened_later t).work) (1 ∷ 2 ∷ []) ≡ (0 ∷ 0 ∷ 1 ∷ []) ∷ (1 ∷ 1 ∷ 1 ∷ []) ∷ []
   -- an edge row that is not in use is not followed
@@ -130,11 +130,11 @@ pub record TraceCases : Type 0 where
   pub unused_forward : forward_of (counts 2 2 0 0 5) full (0 ∷ []) 9 (9 ∷ 9 ∷ []) (9 ∷ 9 ∷ []) ≡ forward_to 1 0 (1 ∷ 0 ∷ []) (1 ∷ 0 ∷ [])
   pub unused_intake : forward_of (counts 2 2 0 0 5) full (1 ∷ []) 9 (9 ∷ 9 ∷ []) (9 ∷ 9 ∷ []) ≡ forward_to 1 0 (0 ∷ 1 ∷ []) (0 ∷ 1 ∷ [])
   -- "on the chain from its latest through previous"
-  pub chain-backward : map three_backward (0 ∷ 2 ∷ 3 ∷ 5 ∷ 6 ∷ []) ≡ (1 ∷ 0 ∷ 0 ∷ []) ∷ (1 ∷ 0 ∷ 0 ∷ []) ∷ (1 ∷ 1 ∷ 0 ∷ []) ∷ (1 ∷ 1 ∷ 0 ∷ []) ∷ (1 ∷ 1 ∷ 1 ∷ []) ∷ []
-  pub chain-forward : map three_forward (0 ∷ 2 ∷ 3 ∷ 5 ∷ 6 ∷ []) ≡ (1 ∷ 1 ∷ 1 ∷ []) ∷ (1 ∷ 1 ∷ 1 ∷ []) ∷ (0 ∷ 1 ∷ 1 ∷ []) ∷ (0 ∷ 1 ∷ 1 ∷ []) ∷ (0 ∷ 0 ∷ 1 ∷ []) ∷ []
-  pub chain-marks : map three_marks (0 ∷ 6 ∷ []) ≡ (1 ∷ []) ∷ (1 ∷ []) ∷ []
-  pub branched-backward : map branched_backward (4 ∷ 9 ∷ []) ≡ (1 ∷ 1 ∷ 0 ∷ 0 ∷ 0 ∷ 0 ∷ []) ∷ (1 ∷ 1 ∷ 0 ∷ 1 ∷ 0 ∷ 0 ∷ []) ∷ []
+  pub chain_backward : map three_backward (0 ∷ 2 ∷ 3 ∷ 5 ∷ 6 ∷ []) ≡ (1 ∷ 0 ∷ 0 ∷ []) ∷ (1 ∷ 0 ∷ 0 ∷ []) ∷ (1 ∷ 1 ∷ 0 ∷ []) ∷ (1 ∷ 1 ∷ 0 ∷ []) ∷ (1 ∷ 1 ∷ 1 ∷ []) ∷ []
+  pub chain_forward_lem : map three_forward (0 ∷ 2 ∷ 3 ∷ 5 ∷ 6 ∷ []) ≡ (1 ∷ 1 ∷ 1 ∷ []) ∷ (1 ∷ 1 ∷ 1 ∷ []) ∷ (0 ∷ 1 ∷ 1 ∷ []) ∷ (0 ∷ 1 ∷ 1 ∷ []) ∷ (0 ∷ 0 ∷ 1 ∷ []) ∷ []
+  pub chain_marks : map three_marks (0 ∷ 6 ∷ []) ≡ (1 ∷ []) ∷ (1 ∷ []) ∷ []
+  pub branched_backward_lem : map branched_backward (4 ∷ 9 ∷ []) ≡ (1 ∷ 1 ∷ 0 ∷ 0 ∷ 0 ∷ 0 ∷ []) ∷ (1 ∷ 1 ∷ 0 ∷ 1 ∷ 0 ∷ 0 ∷ []) ∷ []
   -- "going from a version to each one whose previous it is"
-  pub branched-forward : map branched_forward (4 ∷ 9 ∷ []) ≡ (1 ∷ 1 ∷ 1 ∷ 1 ∷ 0 ∷ 1 ∷ []) ∷ (0 ∷ 0 ∷ 1 ∷ 1 ∷ 0 ∷ 0 ∷ []) ∷ []
+  pub branched_forward_lem : map branched_forward (4 ∷ 9 ∷ []) ≡ (1 ∷ 1 ∷ 1 ∷ 1 ∷ 0 ∷ 1 ∷ []) ∷ (0 ∷ 0 ∷ 1 ∷ 1 ∷ 0 ∷ 0 ∷ []) ∷ []
   -- as long a chain as there are versions
   pub long_chain : map (λ u. (chain_forward u).answer.count) (0 ∷ 1 ∷ 2 ∷ 3 ∷ 4 ∷ []) ≡ 5 ∷ 4 ∷ 3 ∷ 2 ∷ 1 ∷ []

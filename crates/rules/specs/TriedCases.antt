@@ -57,11 +57,11 @@ pub record TriedCases : Type 0 where
   pub second_of_four : tried_among (event 4 1 2 1 ++ (event 5 0 1 2 ++ (event 4 1 2 3 ++ (event 4 1 2 4 ++ event 1 0 1 5)))) ≡ 3
   -- one event more in the worked trail, of four edges: the oldest is the hit, into an older version; the newest, at 6; none leaves the
   -- latest version of 2; none enters 0; an execve
-  pub of-worked : map (λ es. (batch_of fresh_counts (room 8) (file 1 ++ es)).answer.tried)
+  pub of_worked : map (λ es. (batch_of fresh_counts (room 8) (file 1 ++ es)).answer.tried)
       (event 1 0 1 8 ∷ event 2 1 2 8 ∷ event 1 2 1 8 ∷ event 2 1 0 8 ∷ event 5 0 1 8 ∷ [])
       ≡ 15 ∷ 12 ∷ 15 ∷ 15 ∷ 11 ∷ []
   -- the stager's new version gave nothing to 2: all five edges
-  pub from-new_version : (batch_of fresh_counts (room 8) (file 1 ++ (event 1 2 1 8 ++ event 2 1 2 9))).answer.tried ≡ 20
+  pub from_new_version : (batch_of fresh_counts (room 8) (file 1 ++ (event 1 2 1 8 ++ event 2 1 2 9))).answer.tried ≡ 20
   -- a batch counts its own events alone
   pub next_batch : (batch_of (batch 8).counts (batch 8).tables (header ++ event 1 0 1 8)).answer ≡ answer 0 1 4
   -- a declaration and a fork between events

@@ -57,7 +57,7 @@ module _ (T : Trail) where
           end_last = leb-true _ _ (q 2);
           first = first_of p;
           previous_in = λ z. (later_of p z).0;
-          previous-owner = λ z. (later_of p z).1;
+          previous_owner = λ z. (later_of p z).1;
           previous_start = λ z. (later_of p z).2;
         }
 

@@ -36,27 +36,27 @@ grow_trans p q = search arith
 
 rows_refl : (T : Trail) → RowsStay T T
 rows_refl T = record {
-  sort-same_or_signed = λ x l. inl refl;
+  sort_same_or_signed = λ x l. inl refl;
   latest_or_added = λ x l. inl refl;
-  owner-same = λ k l. refl;
+  owner_same = λ k l. refl;
   start_same = λ k l. refl;
   end_le = λ k l. omega arith;
-  previous-same = λ k l. refl;
+  previous_same = λ k l. refl;
   signed_stays = λ x l q. record { row = refl; versions = λ k h i. refl; edges = λ k h i o. refl; no_version = λ k h i o. omega arith; no_edge = λ k h i m o. omega arith };
-  edge-same_or_more = λ k l. inl refl;
+  edge_same_or_more = λ k l. inl refl;
 }
 
 module _ {T T1 T2 : Trail} (g : CountsGrow T.counts T1.counts) (h : CountsGrow T1.counts T2.counts) (p : RowsStay T T1) (q : RowsStay T1 T2) where
   rows_trans : RowsStay T T2
   rows_trans = record {
-    sort-same_or_signed = λ x l. stays_trans _ _ _ (p.sort-same_or_signed x l) (q.sort-same_or_signed x (omega arith));
+    sort_same_or_signed = λ x l. stays_trans _ _ _ (p.sort_same_or_signed x l) (q.sort_same_or_signed x (omega arith));
     latest_or_added = λ x l. latest (p.latest_or_added x l) (q.latest_or_added x (omega arith));
-    owner-same = λ k l. q.owner-same k (omega arith) ∙ p.owner-same k l;
+    owner_same = λ k l. q.owner_same k (omega arith) ∙ p.owner_same k l;
     start_same = λ k l. q.start_same k (omega arith) ∙ p.start_same k l;
     end_le = λ k l. let a = p.end_le k l in let b = q.end_le k (omega arith) in omega arith;
-    previous-same = λ k l. q.previous-same k (omega arith) ∙ p.previous-same k l;
+    previous_same = λ k l. q.previous_same k (omega arith) ∙ p.previous_same k l;
     signed_stays = λ x l s. kept x l (p.signed_stays x l s) (λ h. q.signed_stays x (omega arith) h) s;
-    edge-same_or_more = λ k l. counted (p.edge-same_or_more k l) (q.edge-same_or_more k (omega arith));
+    edge_same_or_more = λ k l. counted (p.edge_same_or_more k l) (q.edge_same_or_more k (omega arith));
   }
     where
       latest : {x : ℕ} → LatestOrAdded T T1 x → LatestOrAdded T1 T2 x → LatestOrAdded T T2 x
@@ -67,7 +67,7 @@ module _ {T T1 T2 : Trail} (g : CountsGrow T.counts T1.counts) (h : CountsGrow T
       -- a version that was added, first or then
       added : {x : ℕ} → SignedStays T T1 x → SignedStays T1 T2 x → (k : ℕ) → T.counts.versions ≤ k → k < T2.counts.versions → owner_of T2 k ≡ x
           → (b : Bool) → ltb k T1.counts.versions ≡ b → ⊥
-      added a b k h i o true z = let j = ltb-true _ _ z in a.no_version k h j (sym (q.owner-same k j) ∙ o)
+      added a b k h i o true z = let j = ltb-true _ _ z in a.no_version k h j (sym (q.owner_same k j) ∙ o)
       added a b k h i o false z = b.no_version k (ltb-false _ _ z) i o
 
       -- an edge keeps the version that it enters
@@ -79,9 +79,9 @@ module _ {T T1 T2 : Trail} (g : CountsGrow T.counts T1.counts) (h : CountsGrow T
           → owner_of T (T2.edge k).to.0 ≡ x → (b : Bool) → ltb k T1.counts.edges ≡ b → ⊥
       entered a b k h i m o true z =
           let j = ltb-true _ _ z in
-          let e = to_same k (q.edge-same_or_more k j) in
+          let e = to_same k (q.edge_same_or_more k j) in
           a.no_edge k h j (omega arith) (ap (owner_of T) (sym e) ∙ o)
-      entered a b k h i m o false z = b.no_edge k (ltb-false _ _ z) i (omega arith) (p.owner-same (T2.edge k).to.0 m ∙ o)
+      entered a b k h i m o false z = b.no_edge k (ltb-false _ _ z) i (omega arith) (p.owner_same (T2.edge k).to.0 m ∙ o)
 
       kept : (x : ℕ) → x < T.counts.entities → SignedStays T T1 x → (is_signed (T1.entity x).sort ≡ true → SignedStays T1 T2 x) → is_signed (T.entity x).sort ≡ true
           → SignedStays T T2 x
@@ -89,11 +89,11 @@ module _ {T T1 T2 : Trail} (g : CountsGrow T.counts T1.counts) (h : CountsGrow T
           let b = next (ap (λ (r : EntityRow). is_signed r.sort) a.row ∙ s) in
           record {
             row = b.row ∙ a.row;
-            versions = λ k h o. b.versions k (omega arith) (p.owner-same k h ∙ o) ∙ a.versions k h o;
+            versions = λ k h o. b.versions k (omega arith) (p.owner_same k h ∙ o) ∙ a.versions k h o;
             edges = λ k h i o.
                 let same = a.edges k h i o in
                 let to = ap (λ (r : EdgeRow). r.to.0) same in
-                b.edges k (omega arith) (omega arith) (ap (owner_of T1) to ∙ p.owner-same (T.edge k).to.0 i ∙ o) ∙ same;
+                b.edges k (omega arith) (omega arith) (ap (owner_of T1) to ∙ p.owner_same (T.edge k).to.0 i ∙ o) ∙ same;
             no_version = λ k h i o. added a b k h i o (ltb k T1.counts.versions) refl;
             no_edge = λ k h i m o. entered a b k h i m o (ltb k T1.counts.edges) refl;
           }
@@ -132,7 +132,7 @@ framed_refl c t w x = record {
   versions = past_refl _ _;
   edges = past_refl _ _;
   rows = rows_refl (trail_of c t);
-  none-taken = λ e. (refl, refl);
+  none_taken = λ e. (refl, refl);
 }
 
 framed_trans : (w : ℕ) (x : Checked) {c c1 c2 : Counts} {t t1 t2 : Tables} {m n : ℕ} → Framed c t (answered (results x m c1 t1) w)
@@ -147,9 +147,9 @@ framed_trans w x p q =
       versions = past_trans (omega arith) p.versions q.versions;
       edges = past_trans (omega arith) p.edges q.edges;
       rows = rows_trans g h p.rows q.rows;
-      none-taken = λ e.
-          let a = p.none-taken (omega arith) in
-          let b = q.none-taken (omega arith) in
+      none_taken = λ e.
+          let a = p.none_taken (omega arith) in
+          let b = q.none_taken (omega arith) in
           (b.0 ∙ a.0, b.1 ∙ a.1);
     }
 

@@ -34,7 +34,7 @@ in_use c = record { entities = c.entities; versions = c.versions; edges = c.edge
 module _ (cap : Capacity) (T : Trail) (f : RowFacts T) where
   -- a record writes at rows that are in use after it
   happened_in_use : (e : Event) (d : Decision) → EventTaken cap T e d → Within (in_use (happened T e d).counts) (happened T e d).writes
-  happened_in_use e (Repeat k) p = (p.room-left, tt)
+  happened_in_use e (Repeat k) p = (p.room_left, tt)
   happened_in_use e Widen p = ((f.entity e.target.0 p.target_in).latest_in, (omega arith, tt))
   happened_in_use e Renew p = (omega arith, (p.target_in, (omega arith, tt)))
 
@@ -78,5 +78,5 @@ module _ (c : Counts) (t : Tables) (s : is_sound (capacity_of t) (trail_of c t) 
       versions = past.versions;
       edges = past.edges;
       rows = subst (RowsStay T) (sym (step_trail c t r s h)) (step_stay T cap r h facts);
-      none-taken = λ e. absurd (omega arith);
+      none_taken = λ e. absurd (omega arith);
     }

@@ -32,7 +32,7 @@ module _ (T : Trail) where
         go true e = sym (pick_true _ _ _ _ e (sym (eq-eqb _ _ (f.first (eqb-true _ _ e)))))
         go false e =
             let z = eqb-false _ _ e in
-            sym (pick_false _ _ _ _ e (sym (hold_every (lt-ltb _ _ (f.previous_in z) also eq-eqb _ _ (f.previous-owner z) also le-leb _ _ (f.previous_start z) also done))))
+            sym (pick_false _ _ _ _ e (sym (hold_every (lt-ltb _ _ (f.previous_in z) also eq-eqb _ _ (f.previous_owner z) also le-leb _ _ (f.previous_start z) also done))))
 
     pub version_passes : VersionFacts T k → version_test T k ≡ true
     unfolding version_test sound_version

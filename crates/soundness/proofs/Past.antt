@@ -14,23 +14,23 @@ use Rattle.soundness.specs.Frame.{PastStays}
 use Rattle.soundness.proofs.Written.{Within}
 
 pub past_refl : (n : ℕ) (xs : List ℕ) → PastStays n xs xs
-past_refl n xs = record { length-same = refl; number_same = λ i l. refl }
+past_refl n xs = record { length_same = refl; number_same = λ i l. refl }
 
 pub past_trans : {m n : ℕ} {xs ys zs : List ℕ} → m ≤ n → PastStays m xs ys → PastStays n ys zs → PastStays n xs zs
 past_trans h p q = record {
-  length-same = q.length-same ∙ p.length-same;
+  length_same = q.length_same ∙ p.length_same;
   number_same = λ i l. q.number_same i l ∙ p.number_same i (omega arith);
 }
 
 module _ (xs : List ℕ) (k n : ℕ) (l : k < n) where
   past_put_entity : (r : EntityRow) → PastStays (entity_width * n) xs (put_entity xs k r)
-  past_put_entity r = record { length-same = length-put_entity xs k r; number_same = λ i h. get_or-put_entity xs k r i (λ _. omega arith) }
+  past_put_entity r = record { length_same = length-put_entity xs k r; number_same = λ i h. get_or-put_entity xs k r i (λ _. omega arith) }
 
   past_put_version : (r : VersionRow) → PastStays (version_width * n) xs (put_version xs k r)
-  past_put_version r = record { length-same = length-put_version xs k r; number_same = λ i h. get_or-put_version xs k r i (λ _. omega arith) }
+  past_put_version r = record { length_same = length-put_version xs k r; number_same = λ i h. get_or-put_version xs k r i (λ _. omega arith) }
 
   past_put_edge : (r : EdgeRow) → PastStays (edge_width * n) xs (put_edge xs k r)
-  past_put_edge r = record { length-same = length-put_edge xs k r; number_same = λ i h. get_or-put_edge xs k r i (λ _. omega arith) }
+  past_put_edge r = record { length_same = length-put_edge xs k r; number_same = λ i h. get_or-put_edge xs k r i (λ _. omega arith) }
 
 -- of all three tables, from row n of each on
 pub record AllPastStay (n : Capacity) (t t' : Tables) : Type 0 where

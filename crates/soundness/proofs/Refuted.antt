@@ -18,7 +18,7 @@ module _ {b : Batched} (f : Framed (counts 4 5 4 7 7) signed_tables b) where
   report = f.rows.signed_stays 2 (omega arith) refl
 
   sort-of : (x : ℕ) → x < 4 → SameOrSigned (entity_at signed_tables.entities x).sort (entity_at b.tables.entities x).sort
-  sort-of x l = f.rows.sort-same_or_signed x l
+  sort-of x l = f.rows.sort_same_or_signed x l
 
   version_is : version_at b.tables.versions 2 ≡ version_at signed_tables.versions 2
   unfolding version_at
@@ -35,11 +35,11 @@ module _ {b : Batched} (f : Framed (counts 4 5 4 7 7) signed_tables b) where
 pub refuted : Refuted
 unfolding entity_at version_at edge_at is_object is_subject
 refuted = record {
-  row-changed = λ b w f. w (report f).row;
+  row_changed = λ b w f. w (report f).row;
   version_changed = λ b w f. w (version_is f);
-  edge-changed = λ b w f. w (edge_is f);
+  edge_changed = λ b w f. w (edge_is f);
   version_added = λ b w f. (report f).no_version 5 (omega arith) (omega (arith, w.0)) w.1;
-  edge-added = λ b w f. no_edge_more f w.0 w.1;
+  edge_added = λ b w f. no_edge_more f w.0 w.1;
   study_a_subject = λ b w f. subject (sort-of f 0 (omega arith)) w;
   stager_signed = λ b w f. signed (sort-of f 1 (omega arith)) w;
 }

@@ -54,14 +54,14 @@ module _ (T : Trail) where
 
   extends_stay : (T' : Trail) → Extends T T' → Latest T' → Ends T'.version → Counted T' → Kept T' → RowsStay T T'
   extends_stay T' g latest ends counted kept = record {
-    sort-same_or_signed = g.sort_stays;
+    sort_same_or_signed = g.sort_stays;
     latest_or_added = latest;
-    owner-same = g.owner-same;
+    owner_same = g.owner_same;
     start_same = g.start_same;
     end_le = ends;
-    previous-same = g.previous-same;
+    previous_same = g.previous_same;
     signed_stays = kept;
-    edge-same_or_more = counted;
+    edge_same_or_more = counted;
   }
 
   -- a version added leaves the ends of those before it

@@ -15,9 +15,9 @@ pub every_next : (x b : Bool) (bs : List Bool) → b ≡ true → x ≡ every bs
 unfolding every
 every_next x b bs e p = rw e p
 
-pub every-last : (x b : Bool) → x ≡ b → x ≡ every (b ∷ [])
+pub every_last : (x b : Bool) → x ≡ b → x ≡ every (b ∷ [])
 unfolding every
-every-last x b p = p ∙ sym (and-true b)
+every_last x b p = p ∙ sym (and-true b)
 
 -- a flag that a call returned
 
@@ -40,4 +40,4 @@ false_of b r p h = sym (false_by_not b r p h)
 
 pub ruleset ands = (and_false, and_next, and_of, true_by_not, false_of)
 
-pub ruleset tests = (pick_true, pick_false, every_false, every_next, every-last, plain)
+pub ruleset tests = (pick_true, pick_false, every_false, every_next, every_last, plain)

@@ -24,9 +24,9 @@ module _ (k : ℕ) (v p r : VersionRow) (q : r ≡ p) (s : v.start ≡ 0 → ⊥
   unfolding sound_previous may_follow
   previous_apart h = rw (← q) (search tests depth 16)
 
-  pub previous-same : r.entity.0 ≡ v.entity.0 → leb r.start v.start ≡ sound_previous k v p
+  pub previous_same : r.entity.0 ≡ v.entity.0 → leb r.start v.start ≡ sound_previous k v p
   unfolding sound_previous may_follow
-  previous-same h = rw (← q) (search tests depth 16)
+  previous_same h = rw (← q) (search tests depth 16)
 
 -- version k has row v, and the test gave r
 module _ (c : Counts) (es vs : List ℕ) (k : ℕ) (v : VersionRow) (r : Bool) (g : r ≡ sound_version c k v (version_at vs v.previous.0)) where

@@ -24,7 +24,7 @@ pub record VersionFacts (T : Trail) (k : ℕ) : Type 0 where
   -- previous is none exactly when start is 0
   pub first : (T.version k).start ≡ 0 → (T.version k).previous.0 ≡ none
   pub previous_in : ((T.version k).start ≡ 0 → ⊥) → (T.version k).previous.0 < k
-  pub previous-owner : ((T.version k).start ≡ 0 → ⊥) → owner_of T (T.version k).previous.0 ≡ owner_of T k
+  pub previous_owner : ((T.version k).start ≡ 0 → ⊥) → owner_of T (T.version k).previous.0 ≡ owner_of T k
   pub previous_start : ((T.version k).start ≡ 0 → ⊥) → (T.version (T.version k).previous.0).start ≤ (T.version k).start
 
 pub record EdgeFacts (T : Trail) (k : ℕ) : Type 0 where

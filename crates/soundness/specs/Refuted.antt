@@ -12,13 +12,13 @@ NoFrame Wrong = (b : Batched) → Wrong b → Framed (counts 4 5 4 7 7) signed_t
 
 pub record Refuted : Type 0 where
   -- the report is not signed any more, or has another latest version
-  pub row-changed : NoFrame (λ b. (entity_at b.tables.entities 2 ≡ entity_row 2 2 → ⊥))
+  pub row_changed : NoFrame (λ b. (entity_at b.tables.entities 2 ≡ entity_row 2 2 → ⊥))
   -- its version, or an edge into it, has another row: another end, another count
   pub version_changed : NoFrame (λ b. (version_at b.tables.versions 2 ≡ version_row 2 0 6 none → ⊥))
-  pub edge-changed : NoFrame (λ b. (edge_at b.tables.edges 1 ≡ edge_row 1 2 2 2 2 4 → ⊥))
+  pub edge_changed : NoFrame (λ b. (edge_at b.tables.edges 1 ≡ edge_row 1 2 2 2 2 4 → ⊥))
   -- a version of it, or an edge into it, is added
   pub version_added : NoFrame (λ b. (6 ≤ b.counts.versions) × ((version_at b.tables.versions 5).entity.0 ≡ 2))
-  pub edge-added : NoFrame (λ b. (5 ≤ b.counts.edges) × ((edge_at b.tables.edges 4).to.0 ≡ 2))
+  pub edge_added : NoFrame (λ b. (5 ≤ b.counts.edges) × ((edge_at b.tables.edges 4).to.0 ≡ 2))
   -- the study is a subject now; the stager is signed
   pub study_a_subject : NoFrame (λ b. (entity_at b.tables.entities 0).sort ≡ 1)
   pub stager_signed : NoFrame (λ b. (entity_at b.tables.entities 1).sort ≡ 2)

@@ -60,9 +60,9 @@ module _ (s t : ℕ) (e : EdgeRow) where
 
   module _ (W : ℕ → VersionRow) (m : List ℕ) where
     module _ (p : VersionNo) (q : p ≡ (W e.to.0).previous) (a : Bool) (m' : List ℕ) (f : Followed (source_back s t e) m a m') where
-      pub edge-back_first : p.0 ≡ none → Followed (edge_back W s t e) m a m'
+      pub edge_back_first : p.0 ≡ none → Followed (edge_back W s t e) m a m'
       unfolding edge_back
-      edge-back_first h = rw (← q) (followed_append _ _ m m' m' a false a f (step-none e.to.0 p.0 m' h) (sym (or-false a)))
+      edge_back_first h = rw (← q) (followed_append _ _ m m' m' a false a f (step-none e.to.0 p.0 m' h) (sym (or-false a)))
 
       -- the version entered is marked, and stays so
       pub edge-back : eqb (get_or m e.to.0 0) 1 ≡ true → (b c : Bool) (m'' : List ℕ) → MarkedIf true p.0 m' b m'' → c ≡ a || b → (p.0 ≡ none → ⊥)

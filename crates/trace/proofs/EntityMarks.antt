@@ -13,7 +13,7 @@ use Rattle.rows.specs.declared.Counts.{Counts}
 use Rattle.rows.specs.declared.VersionRow.{VersionRow}
 use Rattle.rules.specs.Marks.{marks_below, ones}
 use Rattle.closure.proofs.Entities.{length-marks_below, marks_below_zero, marks_below_marked, marks_below-other}
-use Rattle.closure.proofs.Ones.{ones-take_suc}
+use Rattle.closure.proofs.Ones.{ones_take_suc}
 use Rattle.trace.specs.Followed.{MarkedIf}
 use Rattle.trace.specs.Owners.{owner_marked, owners_marked, EntitiesMarked}
 
@@ -59,7 +59,7 @@ count_start m = refl
 
 module _ (m : List ℕ) (i c : ℕ) (q : c ≡ ones (take i m)) where
   pub count_next : (n b : ℕ) → i < n → n ≡ length m → b ≡ cond (eqb (get_or m i 0) 1) 1 0 → c + b ≡ ones (take (i + 1) m)
-  count_next n b l h e = omega (arith, ones-take_suc m i (omega arith), ap (λ j. ones (take j m)) (add-one i))
+  count_next n b l h e = omega (arith, ones_take_suc m i (omega arith), ap (λ j. ones (take j m)) (add-one i))
 
   pub count_end : (n : ℕ) → n ≡ length m → n ≤ i → c ≡ ones m
   count_end n l h = q ∙ ap ones (take_all i m (omega arith))

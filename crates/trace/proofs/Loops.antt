@@ -109,5 +109,5 @@ module _
     pub later_from_one : (m : List ℕ) → m ≡ passes n ys m₃ → m ≡ passes n ys (pass xs (seeded n (s ∷ [])))
     later_from_one m r = later_passes n xs ys m₂ m₃ c f m r ∙ ap (λ x. passes n ys (pass xs x)) begun
 
-    pub none-from_one : ((a : Arc) → Memᴰ a ys → Memᴰ a xs) → c ≡ false → m₃ ≡ passes n ys (pass xs (seeded n (s ∷ [])))
-    none-from_one i h = no_later_pass n xs ys m₂ m₃ c f i h ∙ ap (λ x. passes n ys (pass xs x)) begun
+    pub none_from_one : ((a : Arc) → Memᴰ a ys → Memᴰ a xs) → c ≡ false → m₃ ≡ passes n ys (pass xs (seeded n (s ∷ [])))
+    none_from_one i h = no_later_pass n xs ys m₂ m₃ c f i h ∙ ap (λ x. passes n ys (pass xs x)) begun

@@ -1,6 +1,6 @@
 -- `trace::back::mark_back` meets its contract. The buffer is cleared, marked and closed in turn; after a first pass that adds no mark later ones change nothing.
 use Rattle.trace.specs.TraceArcs.{marked_back}
-use Rattle.trace.proofs.Loops.{later_from_one, none-from_one}
+use Rattle.trace.proofs.Loops.{later_from_one, none_from_one}
 use Rattle.trace.proofs.BackArcs.{later_first}
 use Rattle.trace.proofs.back.mark_back.Goals as goal
 
@@ -10,4 +10,4 @@ returns-then-first_back c = search later_from_one
 
 pub returns-else-first_back : goal.returns-else-first_back
 unfolding marked_back
-returns-else-first_back c = search (none-from_one, later_first)
+returns-else-first_back c = search (none_from_one, later_first)
