@@ -17,11 +17,12 @@ use Rattle.rows.specs.declared.VersionRow.{VersionRow}
 use Rattle.rows.specs.declared.EdgeRow.{EdgeRow}
 use Rattle.rules.specs.declared.BatchAnswer.{BatchAnswer}
 use Rattle.rules.specs.declared.BackwardAnswer.{BackwardAnswer}
+use Rattle.rules.specs.Trail.{Trail, Tables}
 use Rattle.rules.specs.PlainList.{worked, tried_over}
 use Rattle.rules.specs.Calls.{plain_after}
 use Rattle.rules.specs.Worked.{room, file}
 use Rattle.rules.specs.StandsFor.{stands_for, last_time}
-use Rattle.rules.specs.Backward.{buffer_checks, trace_refusals}
+use Rattle.rules.specs.Backward.{backward_of, buffer_checks, trace_refusals}
 use Rattle.rules.specs.Members.{IsEarliest}
 use Rattle.rules.specs.CallCases.{execves}
 use Rattle.rules.proofs.Computed.{computed}
@@ -32,6 +33,7 @@ use Rattle.rules.specs.Order.{event}
 use Rattle.rules.proofs.SignedCases.{signed_cases}
 use Rattle.closure.proofs.Checked.{undeclared_refused}
 use Rattle.agreement.specs.Demand2.{Answered}
+use Rattle.agreement.specs.RoundTrip.{SameTrail, SameCalls}
 use Rattle.agreement.specs.Refuted.{worked_calls, worked_plain, NoAnswer, Refuted}
 use Rattle.agreement.proofs.WorkedAnswers.{rows, entities_are, versions_are, edges_are, accepted_are, last_is, stager_row, report_version, edge_at_1, edge_at_6, answer_is, p4_count, four, unsigned-batch, not_refused, log_not_refused, backward_is, forward_is}
 use Rattle.agreement.proofs.NoEdge.{no_edge_traced}
@@ -39,6 +41,14 @@ use Rattle.agreement.proofs.LongerPaths.{montage_back, study_forward, montage_fo
 use Rattle.agreement.proofs.OwnIntakes.{subject_not_marked}
 use Rattle.agreement.proofs.GainDropped.{time_6_kept}
 use Rattle.agreement.proofs.SignedAnswers.{signed_counts, report_row, report_signed, last_time_lem, study_row, some_signed, not_written, not_signed_again, signed_answer_is}
+
+-- what the claim says of the trail that took the log in: as many edges, the same backward traces
+same_edges : {T U : Trail} → SameTrail T U → U.counts.edges ≡ T.counts.edges
+same_edges s = s.edges
+
+same_backward : {c c' : Counts} {t t' : Tables} → SameCalls c t c' t' → (v time : ℕ) (work marks : List ℕ)
+    → (backward_of c' t' v time work marks).answer ≡ (backward_of c t v time work marks).answer
+same_backward s = s.backward_answer
 
 -- the plain list refuses no trace with 16
 not_16 : (rs : List Record) (xs work marks : List ℕ) → number_of (first_of (trace_refusals (worked rs).counts xs work marks)) ≡ refusal_no Unsound → ⊥
@@ -159,7 +169,7 @@ refuted = record {
   execves_tried = λ t file a w g. omega (arith, g.tried, execves_tries);
   gain_dropped = λ hs q w g. let k = time_6_kept hs q g in w k.0 k.1 k.2;
   log_always_refused = λ c t out k l w a. w (a.refusal ∙ log_not_refused out l);
-  log_of_no_event = λ b w a. omega (arith, a.same.edges, ap (λ (z : Counts). z.edges) rows.p1_counts);
+  log_of_no_event = λ b w a. omega (arith, same_edges a.same, ap (λ (z : Counts). z.edges) rows.p1_counts);
   log_refused = λ b w a. w a.refusal;
   log_taken_free = λ b w a.
       let x = ap (λ (z : Counts). z.entities) rows.p1_counts in
@@ -167,7 +177,7 @@ refuted = record {
       w (omega (arith, a.taken, unsigned-batch));
   log_counts_kept = λ b w a. w (a.counts_one 0 (omega (arith, ap (λ (z : Counts). z.edges) rows.p1_counts)));
   log_lasts_kept = λ b w a. w (a.lasts_own 0 (omega (arith, ap (λ (z : Counts). z.edges) rows.p1_counts)));
-  log_other_trace = λ b w a. w (ap (λ (z : BackwardAnswer). z.count) (a.calls.backward_answer 2 6 (replicate 6 9) (replicate 5 9)) ∙ p4_count);
+  log_other_trace = λ b w a. w (ap (λ (z : BackwardAnswer). z.count) (same_backward a.calls 2 6 (replicate 6 9) (replicate 5 9)) ∙ p4_count);
   signature_lost = λ c t w h. omega (arith, report_signed h);
   other_signed = λ c t w h. omega (arith, ap (λ (r : EntityRow). r.sort) (study_row h));
   latest_lost = λ c t w h. w (ap (λ (r : EntityRow). r.latest.0) (report_row h));

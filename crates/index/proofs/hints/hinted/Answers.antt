@@ -1,5 +1,6 @@
 -- The edge of the hint goes the way, or the hint says nothing.
-use mathlib.Core.Path.{refl}
+use mathlib.Core.Path.{◌≡◌, refl}
+use native.Mathlib.Omega.{arith}
 use Rattle.index.proofs.Places.{hint_in, hint_target, hint_right}
 use Rattle.index.proofs.hints.hinted.Goals as goal
 
@@ -21,7 +22,7 @@ returns c =
     let p = c.requires in
     let l = c.if-link-eq0 in
     let e = c.edge_in-edge in
-    let f = c.if-from-f in
+    let f : c.edge_in-edge.result.from.0 ≡ c.args.f.0 = omega arith in
     let v = c.version_in-to in
     let x = c.if-owner-x in
-    hint_right _ _ _ _ p.hinted _ _ refl l.false _ e.ensures _ _ f.false _ v.ensures x.false
+    hint_right _ _ _ _ p.hinted _ _ refl l.false _ e.ensures _ _ f _ v.ensures x.false
