@@ -1,0 +1,17 @@
+-- `trace::marks::clear` meets its contract. The invariant: the places passed are cleared.
+use Prim.Native.Nat.{◌≤◌, ◌-◌}
+use native.Mathlib.Omega.{arith}
+use mathlib.Core.Path.{◌≡◌, refl}
+use lib.ListN.{length, take, replicate, length-set}
+use borrow.Author.Rules.{rules}
+use Rattle.marks.proofs.Bytes.{cleared_next, cleared_end}
+use Rattle.marks.proofs.clear.Goals as goal
+
+pub loop-i-init : goal.loop-i-init
+loop-i-init c = (omega arith, refl, refl)
+
+pub loop-i-preserved : goal.loop-i-preserved
+loop-i-preserved c = (omega arith, simp length-set (omega arith), search cleared_next)
+
+pub returns : goal.returns
+returns c = search cleared_end

@@ -1,0 +1,14 @@
+-- `trace::back::mark_back` meets its contract. The buffer is cleared, marked and closed in turn; after a first pass that adds no mark later ones change nothing.
+use borrow.Author.Rules.{rules}
+use Rattle.passes.specs.TraceArcs.{marked_back}
+use Rattle.passes.proofs.Loops.{later_from_one, none_from_one}
+use Rattle.passes.proofs.BackArcs.{later_first}
+use Rattle.passes.proofs.back.mark_back.Goals as goal
+
+pub returns-then-first_back : goal.returns-then-first_back
+unfolding marked_back
+returns-then-first_back c = search later_from_one
+
+pub returns-else-first_back : goal.returns-else-first_back
+unfolding marked_back
+returns-else-first_back c = search (none_from_one, later_first)

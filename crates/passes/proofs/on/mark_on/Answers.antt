@@ -1,0 +1,14 @@
+-- `trace::on::mark_on` meets its contract. After a first pass that adds no mark later ones change nothing.
+use borrow.Author.Rules.{rules}
+use Rattle.passes.specs.TraceArcs.{marked_on}
+use Rattle.passes.proofs.Loops.{later_passes, no_later_pass}
+use Rattle.passes.proofs.OnArcs.{later_first}
+use Rattle.passes.proofs.on.mark_on.Goals as goal
+
+pub returns-then-first_on : goal.returns-then-first_on
+unfolding marked_on
+returns-then-first_on c = search later_passes
+
+pub returns-else-first_on : goal.returns-else-first_on
+unfolding marked_on
+returns-else-first_on c = search (no_later_pass, later_first)

@@ -1,0 +1,6 @@
+use Rattle.words.proofs.Lengths.{left_itself}
+use borrow.Author.Rules.{rules}
+use Rattle.words.proofs.count.left_itself.Goals as goal
+
+pub returns : goal.returns
+returns c = search left_itself

@@ -1,0 +1,6 @@
+use Rattle.words.proofs.Lengths.{left-line}
+use borrow.Author.Rules.{rules}
+use Rattle.words.proofs.count.left_line.Goals as goal
+
+pub returns : goal.returns
+returns c = search left-line
