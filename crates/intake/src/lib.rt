@@ -1,5 +1,6 @@
 // The intake of a forward trace: the earliest of the members'.
 #![tactic(auto)]
+
 ghost use Prim.Native.Nat.{min, ◌≤◌, ◌<◌};
 ghost use mathlib.Core.Path.{◌≡◌};
 ghost use mathlib.Core.Bool.{cond};

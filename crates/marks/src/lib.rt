@@ -1,5 +1,6 @@
 // Buffers of marks: 1 where a version or an entity is marked, else 0.
 #![tactic(auto)]
+
 mod owners;
 
 ghost use mathlib.Core.Path.{◌≡◌};

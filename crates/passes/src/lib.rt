@@ -1,5 +1,6 @@
 // Passes over the edges and the version steps, which close marked versions backward and forward.
 #![tactic(auto)]
+
 mod back;
 mod on;
 

@@ -1,5 +1,6 @@
 // The start version of a trace, and those of the members of a list.
 #![tactic(auto)]
+
 mod checks;
 
 ghost use mathlib.Core.Path.{◌≡◌};

@@ -46,8 +46,8 @@ module _ (text : List ℕ) (i at : ℕ) (b : Begins text i at) (end : ℕ) (e : 
         lines = let q = ends (drop at text) (ends_here l) in let r = ap lines_in p in let m = b.lines in omega arith;
       }
 
-  begins-last : length text ≤ end → lines_in text ≡ i
-  begins-last l =
+  begins_last : length text ≤ end → lines_in text ≡ i
+  begins_last l =
       let z : lines_in (drop at text) ≡ 0 = no_end (drop at text) (rw (length-drop at text) (omega arith)) in
       let m = b.lines in omega arith
 
@@ -61,7 +61,7 @@ begins text (suc i) l = go (begins text i (omega arith)) (dec_lt _ _)
     go b (yes k) =
         let d : line_start text i + length (first_line (drop (line_start text i) text)) + 1 ≡ line_start text i + suc (length (first_line (drop (line_start text i) text))) = omega arith in
         subst (λ (k : ℕ). Begins text (suc i) k) d (begins_next text i (line_start text i) b _ refl k)
-    go b (no k) = absurd (let e = begins-last text i (line_start text i) b _ refl (omega arith) in let z : ⊥ = omega arith in z)
+    go b (no k) = absurd (let e = begins_last text i (line_start text i) b _ refl (omega arith) in let z : ⊥ = omega arith in z)
 
 -- the part of the text that is line i
 module _ (text starts : List ℕ) (i : ℕ) (h : HasLine text starts i) where
@@ -122,7 +122,7 @@ module _ (text starts : List ℕ) (n found at : ℕ) (h : Indexing text found at
 
   module _ (l : found < n) (end : ℕ) (e : end ≡ at + length (first_line (drop at text))) where
     pub indexed_short : length text ≤ end → Indexed text n found (set starts found at)
-    indexed_short j = record { found = let z = begins-last text found at h.begun end e j in omega arith; at = known_more }
+    indexed_short j = record { found = let z = begins_last text found at h.begun end e j in omega arith; at = known_more }
 
     pub indexing_next : end < length text → Indexing text (found + 1) (end + 1) (set starts found at)
     indexing_next j =

@@ -1,5 +1,6 @@
 // Names, kinds and times as text: definitions, what equal texts tell, and the lines written to a lent output.
 #![tactic(auto)]
+
 mod count;
 mod marks;
 mod names;

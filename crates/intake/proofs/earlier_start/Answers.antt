@@ -1,5 +1,4 @@
 -- `trace::intake::earlier_start` meets its contract. The start counts where the version is marked.
-use borrow.Author.Rules.{rules}
 use Rattle.intake.proofs.EarliestStart.{earlier_start, no_start}
 use Rattle.intake.proofs.earlier_start.Goals as goal
 

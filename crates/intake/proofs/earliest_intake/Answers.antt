@@ -1,11 +1,8 @@
 -- `trace::intake::earliest_intake` meets its contract. The invariant: the least with the intakes of those still marked, by the edges left, is the least of all.
-use Prim.Native.Nat.{◌≤◌}
 use native.Mathlib.Omega.{arith}
-use mathlib.Core.Path.{◌≡◌, refl}
-use lib.ListN.{length}
+use mathlib.Core.Path.{refl}
 use borrow.Author.Rules.{rules}
-use Rattle.rows.specs.Rows.{version_at, edge_at}
-use Rattle.intake.proofs.EarliestIntake.{Seeks, seeks_start, seeks_in, seeks_low, seeks_next, seeks_end, seeks_done}
+use Rattle.intake.proofs.EarliestIntake.{seeks_start, seeks_in, seeks_low, seeks_next, seeks_end, seeks_done}
 use Rattle.intake.proofs.earliest_intake.Goals as goal
 
 pub loop-left-init : goal.loop-left-init

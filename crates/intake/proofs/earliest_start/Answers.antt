@@ -1,9 +1,6 @@
 -- `trace::intake::earliest_start` meets its contract. The invariant: the least with those not passed is the least of all.
-use Prim.Native.Nat.{◌≤◌, ◌-◌}
 use native.Mathlib.Omega.{arith}
-use borrow.Author.Rules.{rules}
-use Rattle.rows.specs.Rows.{version_at}
-use Rattle.intake.proofs.EarliestStart.{Starts, starts_begin, starts_next, starts_end}
+use Rattle.intake.proofs.EarliestStart.{starts_begin, starts_next, starts_end}
 use Rattle.intake.proofs.earliest_start.Goals as goal
 
 pub loop-v-init : goal.loop-v-init

@@ -1,5 +1,4 @@
 -- `trace::intake::enters_pending` meets its contract. The time is looked at where the version is marked.
-use borrow.Author.Rules.{rules}
 use Rattle.intake.proofs.EnteringLoop.{enters_time, enters-other}
 use Rattle.intake.proofs.enters_pending.Goals as goal
 

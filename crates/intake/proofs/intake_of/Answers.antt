@@ -1,10 +1,6 @@
 -- `trace::intake::intake_of` meets its contract. The invariant: no edge passed enters, so the edges left give the same intake.
-use Prim.Native.Nat.{◌≤◌}
 use native.Mathlib.Omega.{arith}
-use mathlib.Core.Path.{◌≡◌, refl}
-use borrow.Author.Rules.{rules}
-use Rattle.rows.specs.Rows.{version_at, edge_at}
-use Rattle.intake.specs.Intake.{last_intake}
+use mathlib.Core.Path.{refl}
 use Rattle.intake.proofs.IntakeLoop.{intake_here, intake_next, intake_end}
 use Rattle.intake.proofs.intake_of.Goals as goal
 

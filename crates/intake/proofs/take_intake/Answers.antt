@@ -1,5 +1,4 @@
 -- `trace::intake::take_intake` meets its contract. What was read of the edge is its row.
-use borrow.Author.Rules.{rules}
 use Rattle.intake.proofs.EarliestIntake.{taken}
 use Rattle.intake.proofs.take_intake.Goals as goal
 

@@ -1,10 +1,6 @@
 -- `trace::intake::up_to_entering` meets its contract. The invariant: no edge passed enters a marked version.
-use Prim.Native.Nat.{◌≤◌}
 use native.Mathlib.Omega.{arith}
-use mathlib.Core.Path.{◌≡◌, refl}
-use borrow.Author.Rules.{rules}
-use Rattle.rows.specs.Rows.{edge_at}
-use Rattle.intake.specs.Intake.{up_to_entering}
+use mathlib.Core.Path.{refl}
 use Rattle.intake.proofs.EnteringLoop.{entering_here, entering_next, entering_end}
 use Rattle.intake.proofs.up_to_entering.Goals as goal
 

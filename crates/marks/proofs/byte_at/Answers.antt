@@ -1,7 +1,6 @@
 -- `trace::marks::byte_at` meets its contract. Inside the slice the element is read; past its end both sides are 0.
 use mathlib.Core.Path.{sym}
 use lib.ListN.{get_or-eq_default}
-use borrow.Author.Rules.{rules}
 use Rattle.marks.proofs.byte_at.Goals as goal
 
 pub returns-else-i-xs : goal.returns-else-i-xs

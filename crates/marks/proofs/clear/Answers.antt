@@ -1,9 +1,7 @@
 -- `trace::marks::clear` meets its contract. The invariant: the places passed are cleared.
-use Prim.Native.Nat.{◌≤◌, ◌-◌}
 use native.Mathlib.Omega.{arith}
-use mathlib.Core.Path.{◌≡◌, refl}
-use lib.ListN.{length, take, replicate, length-set}
-use borrow.Author.Rules.{rules}
+use mathlib.Core.Path.{refl}
+use lib.ListN.{length-set}
 use Rattle.marks.proofs.Bytes.{cleared_next, cleared_end}
 use Rattle.marks.proofs.clear.Goals as goal
 

@@ -1,5 +1,4 @@
 -- `trace::marks::marked` meets its contract. The test is made on the byte that was read.
-use borrow.Author.Rules.{rules}
 use Rattle.marks.proofs.Bytes.{marked_byte}
 use Rattle.marks.proofs.marked.Goals as goal
 

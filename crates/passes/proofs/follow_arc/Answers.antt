@@ -1,5 +1,4 @@
 -- `trace::marks::follow_arc` meets its contract. The arc's end is marked where its beginning is.
-use borrow.Author.Rules.{rules}
 use Rattle.passes.proofs.Followed.{arc_followed}
 use Rattle.passes.proofs.follow_arc.Goals as goal
 

@@ -1,5 +1,4 @@
 -- `trace::start::mark_start` meets its contract. The mark of the member is new exactly where it was not seen before.
-use borrow.Author.Rules.{rules}
 use Rattle.starts.proofs.StartsLoop.{start_seen, start_new}
 use Rattle.starts.proofs.mark_start.Goals as goal
 

@@ -1,12 +1,7 @@
 -- `trace::start::mark_starts` meets its contract. The invariant: the members from i on are marked as seen, and their start versions.
-use Prim.Native.Nat.{◌≤◌}
 use native.Mathlib.Omega.{arith}
-use mathlib.Core.Path.{◌≡◌}
-use mathlib.Core.List.{[]}
-use lib.ListN.{length, drop}
 use borrow.Author.Rules.{rules}
-use Rattle.rules.specs.Trail.{tables, trail_of}
-use Rattle.starts.proofs.StartsLoop.{Marks, marks_start, marks_next, marks_end}
+use Rattle.starts.proofs.StartsLoop.{marks_start, marks_next, marks_end}
 use Rattle.starts.proofs.mark_starts.Goals as goal
 
 pub loop-i-init : goal.loop-i-init

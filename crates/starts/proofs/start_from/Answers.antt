@@ -1,10 +1,6 @@
 -- The invariant: the steps left lead from the version at hand to where all steps lead from the first.
-use Prim.Native.Nat.{◌≤◌}
 use native.Mathlib.Omega.{arith}
-use mathlib.Core.Path.{◌≡◌, refl}
-use borrow.Author.Rules.{rules}
-use Rattle.rows.specs.Rows.{version_at}
-use Rattle.rules.specs.Start.{start_from}
+use mathlib.Core.Path.{refl}
 use Rattle.starts.proofs.StartLoop.{start_stop, start_next, start_end}
 use Rattle.starts.proofs.start_from.Goals as goal
 

@@ -1,5 +1,4 @@
 -- `trace::start::start_version` meets its contract. The search begins at the entity's latest version.
-use borrow.Author.Rules.{rules}
 use Rattle.starts.proofs.StartLoop.{start_found}
 use Rattle.starts.proofs.start_version.Goals as goal
 

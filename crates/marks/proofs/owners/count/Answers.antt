@@ -1,10 +1,5 @@
 -- `trace::owners::count` meets its contract. The invariant: the count is the number of ones among the places passed.
-use Prim.Native.Nat.{◌≤◌, ◌-◌}
 use native.Mathlib.Omega.{arith}
-use mathlib.Core.Path.{◌≡◌}
-use lib.ListN.{take}
-use borrow.Author.Rules.{rules}
-use Rattle.rules.specs.Marks.{ones}
 use Rattle.marks.proofs.EntityMarks.{count_start, count_next, count_end}
 use Rattle.marks.proofs.owners.count.Goals as goal
 

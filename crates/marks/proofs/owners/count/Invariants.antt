@@ -1,17 +1,12 @@
 -- `trace::owners::count` meets its contract. The invariant: the count is the number of ones among the places passed.
 use Prim.Native.Nat.{◌≤◌, ◌-◌}
-use native.Mathlib.Omega.{arith}
 use mathlib.Core.Path.{◌≡◌}
 use lib.ListN.{take}
-use borrow.Author.Rules.{rules}
 use Rattle.rules.specs.Marks.{ones}
-use Rattle.marks.proofs.EntityMarks.{count_start, count_next, count_end}
 use Rattle.marks.proofs.owners.count.Given as goal
 
 abbrev pub invariant-loop-i : goal.invariant-loop-i
 invariant-loop-i l = (l.i ≤ l.n) × (l.c ≤ l.i) × (l.c ≡ ones (take l.i l.m))
 
-
 abbrev pub decreases-loop-i : goal.decreases-loop-i
 decreases-loop-i l = l.n - l.i
-

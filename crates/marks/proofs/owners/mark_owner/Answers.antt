@@ -1,5 +1,4 @@
 -- `trace::owners::mark_owner` meets its contract. The mark of the version decides.
-use borrow.Author.Rules.{rules}
 use Rattle.marks.proofs.EntityMarks.{owner_marked_lem}
 use Rattle.marks.proofs.owners.mark_owner.Goals as goal
 

@@ -1,11 +1,6 @@
 -- `trace::owners::mark_owners` meets its contract. The invariant: the buffer has the owners of the versions passed.
-use Prim.Native.Nat.{◌≤◌, ◌-◌}
 use native.Mathlib.Omega.{arith}
-use mathlib.Core.Path.{◌≡◌, refl}
-use lib.ListN.{length}
-use borrow.Author.Rules.{rules}
-use Rattle.rows.specs.Rows.{version_at}
-use Rattle.marks.specs.Owners.{owners_marked}
+use mathlib.Core.Path.{refl}
 use Rattle.marks.proofs.EntityMarks.{owners_start, owners_next, owners_end}
 use Rattle.marks.proofs.owners.mark_owners.Goals as goal
 

@@ -1,5 +1,4 @@
 -- `trace::back::edge_back` meets its contract. Both arcs begin at the version entered, so they add nothing where that is not marked.
-use borrow.Author.Rules.{rules}
 use Rattle.passes.proofs.BackArcs.{edge-back-of, edge_idle}
 use Rattle.passes.proofs.back.edge_back.Goals as goal
 

@@ -1,5 +1,4 @@
 -- `trace::back::enter_back` meets its contract. The edge's arc and the step are followed in turn; the first version of an entity has no step.
-use borrow.Author.Rules.{rules}
 use Rattle.passes.proofs.BackArcs.{edge_back_first, edge-back}
 use Rattle.passes.proofs.back.enter_back.Goals as goal
 

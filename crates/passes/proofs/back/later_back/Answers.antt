@@ -1,5 +1,4 @@
 -- `trace::back::later_back` meets its contract. The arcs of the edges and of the versions are followed in turn.
-use borrow.Author.Rules.{rules}
 use Rattle.passes.specs.TraceArcs.{later_back}
 use Rattle.passes.proofs.Followed.{followed_append}
 use Rattle.passes.proofs.back.later_back.Goals as goal

@@ -1,5 +1,4 @@
 -- `trace::back::mark_back` meets its contract. The buffer is cleared, marked and closed in turn; after a first pass that adds no mark later ones change nothing.
-use borrow.Author.Rules.{rules}
 use Rattle.passes.specs.TraceArcs.{marked_back}
 use Rattle.passes.proofs.Loops.{later_from_one, none_from_one}
 use Rattle.passes.proofs.BackArcs.{later_first}

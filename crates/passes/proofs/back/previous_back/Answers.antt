@@ -1,5 +1,4 @@
 -- `trace::back::previous_back` meets its contract. A version without previous has no arc, another has one.
-use borrow.Author.Rules.{rules}
 use Rattle.passes.proofs.BackArcs.{step-none, step_back_lem}
 use Rattle.passes.proofs.back.previous_back.Goals as goal
 

@@ -1,5 +1,4 @@
 -- The arc begins at the version entered, so it adds nothing where that is not marked.
-use borrow.Author.Rules.{rules}
 use Rattle.passes.proofs.BackArcs.{source_of, source_idle}
 use Rattle.passes.proofs.back.source_at.Goals as goal
 

@@ -1,5 +1,4 @@
 -- `trace::back::source_back` meets its contract. An edge that is not followed has no arc, another has one.
-use borrow.Author.Rules.{rules}
 use Rattle.passes.proofs.BackArcs.{source_followed, source_skipped}
 use Rattle.passes.proofs.back.source_back.Goals as goal
 

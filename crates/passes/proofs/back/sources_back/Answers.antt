@@ -1,12 +1,7 @@
 -- `trace::back::sources_back` meets its contract. The invariant: the arcs that are left give from the marks at hand what all give from the marks at the beginning.
-use Prim.Native.Nat.{◌≤◌}
 use native.Mathlib.Omega.{arith}
-use mathlib.Core.Path.{◌≡◌, refl}
-use lib.ListN.{length}
-use borrow.Author.Rules.{rules}
-use Rattle.rows.specs.Rows.{edge_at}
-use Rattle.passes.specs.TraceArcs.{source_back}
-use Rattle.passes.proofs.Loops.{Descends, descends_start, descends_next, descends_end}
+use mathlib.Core.Path.{refl}
+use Rattle.passes.proofs.Loops.{descends_start, descends_next, descends_end}
 use Rattle.passes.proofs.back.sources_back.Goals as goal
 
 pub loop-j-init : goal.loop-j-init

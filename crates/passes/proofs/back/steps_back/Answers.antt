@@ -1,12 +1,7 @@
 -- The invariant: from the marks at hand, the arcs left give what all arcs give from the first marks.
-use Prim.Native.Nat.{◌≤◌}
 use native.Mathlib.Omega.{arith}
-use mathlib.Core.Path.{◌≡◌, refl}
-use lib.ListN.{length}
-use borrow.Author.Rules.{rules}
-use Rattle.rows.specs.Rows.{version_at}
-use Rattle.passes.specs.TraceArcs.{step_back}
-use Rattle.passes.proofs.Loops.{Descends, descends_start, descends_next, descends_end}
+use mathlib.Core.Path.{refl}
+use Rattle.passes.proofs.Loops.{descends_start, descends_next, descends_end}
 use Rattle.passes.proofs.back.steps_back.Goals as goal
 
 pub loop-v-init : goal.loop-v-init

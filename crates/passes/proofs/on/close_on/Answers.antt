@@ -1,12 +1,6 @@
 -- The invariant: from the marks at hand, the passes left give what all passes give from the first marks.
-use Prim.Native.Nat.{◌≤◌}
 use native.Mathlib.Omega.{arith}
-use mathlib.Core.Path.{◌≡◌, refl}
-use lib.ListN.{length}
-use borrow.Author.Rules.{rules}
-use Rattle.rows.specs.Rows.{version_at, edge_at}
-use Rattle.rules.specs.Marks.{passes}
-use Rattle.passes.specs.TraceArcs.{later_on}
+use mathlib.Core.Path.{refl}
 use Rattle.passes.proofs.Loops.{passes_next, passes_stop, passes_end}
 use Rattle.passes.proofs.on.close_on.Goals as goal
 

@@ -1,19 +1,14 @@
 -- The invariant: from the marks at hand, the passes left give what all passes give from the first marks.
 use Prim.Native.Nat.{◌≤◌}
-use native.Mathlib.Omega.{arith}
-use mathlib.Core.Path.{◌≡◌, refl}
+use mathlib.Core.Path.{◌≡◌}
 use lib.ListN.{length}
-use borrow.Author.Rules.{rules}
 use Rattle.rows.specs.Rows.{version_at, edge_at}
 use Rattle.rules.specs.Marks.{passes}
 use Rattle.passes.specs.TraceArcs.{later_on}
-use Rattle.passes.proofs.Loops.{passes_next, passes_stop, passes_end}
 use Rattle.passes.proofs.on.close_on.Given as goal
 
 abbrev pub invariant-loop-left : goal.invariant-loop-left
 invariant-loop-left l = (l.left ≤ l.n) × (length l.work ≡ length l.initial.work) × (passes l.left (later_on (version_at l.versions) (edge_at l.edges) l.n l.d) l.work ≡ passes l.n (later_on (version_at l.versions) (edge_at l.edges) l.n l.d) l.initial.work)
 
-
 abbrev pub decreases-loop-left : goal.decreases-loop-left
 decreases-loop-left l = l.left
-

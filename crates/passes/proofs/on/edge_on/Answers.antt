@@ -1,5 +1,4 @@
 -- Both arcs end at the version entered: nothing where that is marked, else one mark where either begins at a marked one.
-use borrow.Author.Rules.{rules}
 use Rattle.passes.proofs.OnArcs.{edge_on_done, edge_on_lem}
 use Rattle.passes.proofs.on.edge_on.Goals as goal
 

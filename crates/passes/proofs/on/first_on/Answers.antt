@@ -1,5 +1,4 @@
 -- `trace::on::first_on` meets its contract. The arcs of the edges and of the versions are followed in turn.
-use borrow.Author.Rules.{rules}
 use Rattle.passes.specs.TraceArcs.{first_on}
 use Rattle.passes.proofs.Followed.{followed_append}
 use Rattle.passes.proofs.on.first_on.Goals as goal

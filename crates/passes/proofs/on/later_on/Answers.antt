@@ -1,5 +1,4 @@
 -- `trace::on::later_on` meets its contract. The arcs of the edges and of the versions are followed in turn.
-use borrow.Author.Rules.{rules}
 use Rattle.passes.specs.TraceArcs.{later_on}
 use Rattle.passes.proofs.Followed.{followed_append}
 use Rattle.passes.proofs.on.later_on.Goals as goal

@@ -1,5 +1,4 @@
 -- `trace::on::mark_on` meets its contract. After a first pass that adds no mark later ones change nothing.
-use borrow.Author.Rules.{rules}
 use Rattle.passes.specs.TraceArcs.{marked_on}
 use Rattle.passes.proofs.Loops.{later_passes, no_later_pass}
 use Rattle.passes.proofs.OnArcs.{later_first}

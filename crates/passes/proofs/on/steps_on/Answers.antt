@@ -1,12 +1,6 @@
 -- `trace::on::steps_on` meets its contract. The invariant: the arcs passed give the marks at hand.
-use Prim.Native.Nat.{◌≤◌, ◌-◌}
 use native.Mathlib.Omega.{arith}
-use mathlib.Core.Path.{◌≡◌, refl}
-use lib.ListN.{length}
-use borrow.Author.Rules.{rules}
-use Rattle.rows.specs.Rows.{version_at}
-use Rattle.passes.specs.TraceArcs.{step_on}
-use Rattle.passes.specs.Followed.{Followed, up}
+use mathlib.Core.Path.{refl}
 use Rattle.passes.proofs.Loops.{ascends_start, ascends_next, ascends_end}
 use Rattle.passes.proofs.on.steps_on.Goals as goal
 

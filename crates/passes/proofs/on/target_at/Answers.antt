@@ -1,5 +1,4 @@
 -- `trace::on::target_at` meets its contract. The edge is the one of the row that was read.
-use borrow.Author.Rules.{rules}
 use Rattle.passes.proofs.OnArcs.{target_of}
 use Rattle.passes.proofs.on.target_at.Goals as goal
 

@@ -1,10 +1,6 @@
 -- `trace::checks::any_undeclared` meets its contract. The invariant: the members left say the same as all.
-use Prim.Native.Nat.{◌≤◌, ◌-◌}
 use native.Mathlib.Omega.{arith}
-use mathlib.Core.Path.{◌≡◌, refl}
-use lib.ListN.{length, drop}
-use borrow.Author.Rules.{rules}
-use Rattle.starts.specs.EntityList.{any_undeclared}
+use mathlib.Core.Path.{refl}
 use Rattle.starts.proofs.MemberChecks.{undeclared_here, undeclared_next, undeclared_end}
 use Rattle.starts.proofs.checks.any_undeclared.Goals as goal
 

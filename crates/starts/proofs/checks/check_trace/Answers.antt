@@ -1,5 +1,4 @@
 -- `trace::checks::check_trace` meets its contract. Each return is the first of the conditions that holds.
-use borrow.Author.Rules.{rules}
 use Rattle.refusals.proofs.Checks.{checks}
 use Rattle.soundness.proofs.Tests.{true_by_not, false_by_not}
 use Rattle.starts.specs.EntityList.{checks_with}

@@ -1,5 +1,4 @@
 use Rattle.words.proofs.Lengths.{marked_length, plain-length}
-use borrow.Author.Rules.{rules}
 use Rattle.words.proofs.count.escaped_length.Goals as goal
 
 pub returns-then-is_marked : goal.returns-then-is_marked

@@ -1,6 +1,5 @@
 use Rattle.words.specs.Parts.{spaced_kind}
 use Rattle.words.proofs.Lengths.{kind_length}
-use borrow.Author.Rules.{rules}
 use Rattle.words.proofs.count.kind_length.Goals as goal
 
 pub returns-in-Read : goal.returns-in-Read

@@ -1,5 +1,4 @@
 use Rattle.words.proofs.Lengths.{left_itself}
-use borrow.Author.Rules.{rules}
 use Rattle.words.proofs.count.left_itself.Goals as goal
 
 pub returns : goal.returns

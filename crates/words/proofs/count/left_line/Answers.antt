@@ -1,5 +1,4 @@
 use Rattle.words.proofs.Lengths.{left-line}
-use borrow.Author.Rules.{rules}
 use Rattle.words.proofs.count.left_line.Goals as goal
 
 pub returns : goal.returns

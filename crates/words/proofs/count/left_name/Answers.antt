@@ -1,5 +1,4 @@
 use Rattle.words.proofs.Lengths.{left-named}
-use borrow.Author.Rules.{rules}
 use Rattle.words.proofs.count.left_name.Goals as goal
 
 pub returns : goal.returns

@@ -1,10 +1,5 @@
 -- The invariant: what is left after the quotes and the first i bytes of the name.
-use Prim.Native.Nat.{◌+◌, ◌-◌, ◌≤◌}
-use mathlib.Core.Path.{◌≡◌}
-use lib.ListN.{length, take}
-use Rattle.words.specs.Quoted.{escaped}
 use Rattle.words.proofs.Lengths.{left_begin, left_next, left_end}
-use borrow.Author.Rules.{rules}
 use native.Mathlib.Omega.{arith}
 use Rattle.words.proofs.count.left_quoted.Goals as goal
 

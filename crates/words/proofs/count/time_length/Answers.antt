@@ -1,5 +1,4 @@
 use Rattle.words.proofs.Lengths.{time_fits, time_length}
-use borrow.Author.Rules.{rules}
 use Rattle.words.proofs.count.time_length.Goals as goal
 
 pub overflow_add-result : goal.overflow_add-result

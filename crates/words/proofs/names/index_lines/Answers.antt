@@ -1,8 +1,6 @@
 -- The invariant: it is known where the lines before `found` begin.
-use Prim.Native.Nat.{◌-◌, ◌≤◌, ◌<◌}
-use mathlib.Core.Path.{◌≡◌, refl}
-use lib.ListN.{length}
-use Rattle.words.proofs.LineStarts.{Indexing, indexing_begins, indexing_next, indexed_short, indexed_all}
+use mathlib.Core.Path.{refl}
+use Rattle.words.proofs.LineStarts.{indexing_begins, indexing_next, indexed_short, indexed_all}
 use borrow.Author.Rules.{rules}
 use native.Mathlib.Omega.{arith}
 use Rattle.words.proofs.names.index_lines.Goals as goal

@@ -1,7 +1,4 @@
-use Prim.Native.Nat.{◌+◌, ◌-◌, ◌≤◌}
-use mathlib.Core.Path.{◌≡◌, refl}
-use lib.ListN.{length, drop}
-use Rattle.words.specs.Names.{first_line}
+use mathlib.Core.Path.{refl}
 use Rattle.words.proofs.FirstLine.{end_found, end_next, end_none}
 use borrow.Author.Rules.{rules}
 use native.Mathlib.Omega.{arith}

@@ -1,4 +1,3 @@
-use borrow.Author.Rules.{rules}
 use Rattle.words.proofs.LineStarts.{part_some, part_start, part_end, part_is}
 use Rattle.words.proofs.names.name.Goals as goal
 
