@@ -2,7 +2,8 @@
 // prints the counts, the edges and the refusal. The text is rules' listing_of.
 #![tactic(auto)]
 
-ghost use Rattle.std.specs.Prelude.{◌≤◌, length, IfOk};
+ghost use Rattle.std.specs.Prelude.{◌<◌, ◌≤◌, length, take, IfOk};
+ghost use Rattle.std.specs.Io.KnownBytes.{Consumes, IsAtEnd};
 
 use rows::{Counts, EdgeNo};
 use rules::BatchAnswer;
@@ -73,7 +74,9 @@ fn list(rt: &impl Print, file: &[u8]) -> io::Result<()> {
 
 // Reads until the buffer is full or the input ends; how many bytes were read.
 fn read_full<R: Read>(input: &mut R, buf: &mut [u8]) -> io::Result<usize>
-    ensures { IfOk result (λ n. n ≤ length buf.old) }
+    ensures within { IfOk result (λ n. n ≤ length buf.old) }
+    ensures read { IfOk result (λ n. Consumes (R.remaining input.old) (R.remaining input.new) (take n buf.new)) }
+    ensures to_the_end { IfOk result (λ n. n < length buf.old → IsAtEnd (R.remaining input.new)) }
 {
     let mut n = 0usize;
     while n < buf.len() {
