@@ -1,9 +1,9 @@
 -- The kept log as a plain list is taken in again whole: none of its events is a repeat, and as many versions are made.
+use Rattle.std.specs.Prelude.{Ok}
 use Prim.Native.Nat.{ℕ, ◌+◌, ◌≤◌, ◌<◌}
 use native.Mathlib.Omega.{arith}
 use mathlib.Core.Path.{◌≡◌, refl, sym, ◌∙◌, ap, subst}
 use mathlib.Core.List.{List, [], ◌∷◌}
-use Rattle.refusals.specs.declared.Checked.TheVariants.{Passed}
 use Rattle.record.specs.declared.Event.{Event}
 use Rattle.record.specs.declared.Record.{Record}
 use Rattle.record.specs.declared.Record.TheVariants as records
@@ -101,7 +101,7 @@ module _ (F : Trail) (cap : Capacity) (w : Within cap) (room : EnoughRows cap F.
     step_again =
         subst (λ (x : Decision). KeptStep (worked R) (changed (worked R) (happened (worked R) e x)) e (made d)) (sym decided) (happened-step (worked R) e d k)
 
-    passes_again : refusal_of cap (worked R) (records.Event e) ≡ Passed
+    passes_again : refusal_of cap (worked R) (records.Event e) ≡ Ok tt
     unfolding refusal_of
     passes_again = event-passes cap (worked R) e _ (subst (EventTaken cap (worked R) e) (sym decided) taken_again)
 

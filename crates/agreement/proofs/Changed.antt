@@ -1,11 +1,11 @@
 -- Two trails with the same counts and rows in use: a record that is taken in leaves them the same.
+use Rattle.std.specs.Prelude.{Ok}
 use Prim.Native.Nat.{ℕ, ◌+◌, ◌<◌}
 use native.Mathlib.Omega.{arith}
 use mathlib.Core.Path.{◌≡◌, refl, ap, subst}
 use mathlib.Core.Bool.{Bool, true, false, cond}
 use lib.Dec.{eqb}
 use borrow.Author.Tests.{eqb-false}
-use Rattle.refusals.specs.declared.Checked.TheVariants.{Passed}
 use Rattle.rows.specs.declared.EntityRow.{EntityRow}
 use Rattle.rows.specs.declared.VersionRow.{VersionRow}
 use Rattle.rows.specs.declared.EdgeRow.{EdgeRow}
@@ -141,7 +141,7 @@ module _ (T : Trail) (f : RowFacts T) (cap : Capacity) where
     happened_alike e Widen p = record { counts = refl; rows = happened-same T E V' D s f e p.source_in p.target_in cap Widen p.room_left }
     happened_alike e Renew p = record { counts = refl; rows = happened-same T E V' D s f e p.source_in p.target_in cap Renew p.room_left }
 
-    other_alike : (r : Record) → refusal_of cap T r ≡ Passed → After r U
+    other_alike : (r : Record) → refusal_of cap T r ≡ Ok tt → After r U
     unfolding refusal_of change_of
     other_alike (records.Declaration d) h = record { counts = refl; rows = declared_same T E V' D s f d }
     other_alike (records.Event e) h =
@@ -150,7 +150,7 @@ module _ (T : Trail) (f : RowFacts T) (cap : Capacity) where
         (happened_alike e (decision_of T e) p)
     other_alike (records.Signature g) h = record { counts = refl; rows = signed_same T E V' D s f g (signature_taken T g h).entity_in }
 
-  pub changed_alike : (T' : Trail) → Alike T T' → (r : Record) → refusal_of cap T r ≡ Passed → After r T'
+  pub changed_alike : (T' : Trail) → Alike T T' → (r : Record) → refusal_of cap T r ≡ Ok tt → After r T'
   changed_alike T' a r h =
       let s : SameRows T (other T T'.entity T'.version T'.edge)
       = record { entities = refl; versions = refl; edges = refl; entity_rows = a.rows.entity_rows; version_rows = a.rows.version_rows; edge_rows = a.rows.edge_rows } in

@@ -1,4 +1,5 @@
 -- Whether an event is kept, and whether its target gets a new version, depends on the kept events alone.
+use Rattle.std.specs.Prelude.{Some, None}
 use Prim.Native.Nat.{ℕ, zero, suc, ◌<◌}
 use native.Mathlib.Omega.{arith}
 use native.Mathlib.Decide.{ℕ_discrete}
@@ -10,8 +11,7 @@ use borrow.Author.Tests.{eqb-true, eq-eqb}
 use Rattle.rows.specs.declared.VersionRow.{VersionRow}
 use Rattle.rows.specs.declared.EdgeRow.{EdgeRow}
 use Rattle.record.specs.declared.Event.{Event}
-use Rattle.rules.specs.declared.Found.{Found}
-use Rattle.rules.specs.declared.Found.TheVariants.{At, Nothing}
+use Rattle.rules.specs.Decide.{Found}
 use Rattle.rules.specs.Trail.{Trail, latest_of, owner_of}
 use Rattle.rules.specs.Decide.{edge_no, goes_to, newest_to, leaves, folds, repeat_of, has_outgoing, decide, decision_of}
 use Rattle.rules.specs.History.{Item, kept, item_of, kept_events}
@@ -26,12 +26,12 @@ goes_to_is : (E : ℕ → EdgeRow) (W : ℕ → VersionRow) (f x k : ℕ) → Go
 unfolding goes_to
 goes_to_is E W f x k g = rw (eq-eqb _ _ g.0, eq-eqb _ _ g.1)
 
-newest_to-none : (E : ℕ → EdgeRow) (W : ℕ → VersionRow) (f x n : ℕ) → newest_to E W f x n ≡ Nothing → (k : ℕ) → k < n → Goes E W f x k → ⊥
+newest_to-none : (E : ℕ → EdgeRow) (W : ℕ → VersionRow) (f x n : ℕ) → newest_to E W f x n ≡ None → (k : ℕ) → k < n → Goes E W f x k → ⊥
 unfolding newest_to
 newest_to-none E W f x zero h k l g = omega arith
 newest_to-none E W f x (suc n) h k l g = go (goes_to E W f x n) refl h (ℕ_discrete k n) (λ q i. newest_to-none E W f x n q k i g)
   where
-    go : (b : Bool) → goes_to E W f x n ≡ b → cond b (At (edge_no n)) (newest_to E W f x n) ≡ Nothing → Dec (k ≡ n) → (newest_to E W f x n ≡ Nothing → k < n → ⊥) → ⊥
+    go : (b : Bool) → goes_to E W f x n ≡ b → cond b (Some (edge_no n)) (newest_to E W f x n) ≡ None → Dec (k ≡ n) → (newest_to E W f x n ≡ None → k < n → ⊥) → ⊥
     go true q h c ih = let z : ◌≡◌ {A = ℕ} 0 1 = cc in omega arith
     go false q h (yes p) ih =
         let a : goes_to E W f x n ≡ true = ap (goes_to E W f x) (sym p) ∙ goes_to_is E W f x k g in
@@ -61,13 +61,13 @@ edge_to T u v k l p q = record {
 -- Two trails with the same kept events
 
 module _ {T U : Trail} {hs js : List Item} (g : Grown T hs) (i : Grown U js) (q : kept_events hs ≡ kept_events js) where
-  nothing_again : (u v : ℕ) → u < ne T → u < ne U → newest_to T.edge T.version (latest_of T u) v T.counts.edges ≡ Nothing
-      → newest_to U.edge U.version (latest_of U u) v U.counts.edges ≡ Nothing
+  nothing_again : (u v : ℕ) → u < ne T → u < ne U → newest_to T.edge T.version (latest_of T u) v T.counts.edges ≡ None
+      → newest_to U.edge U.version (latest_of U u) v U.counts.edges ≡ None
   nothing_again u v h k n = go (newest_to U.edge U.version (latest_of U u) v U.counts.edges) refl
     where
-      go : (x : Found) → newest_to U.edge U.version (latest_of U u) v U.counts.edges ≡ x → x ≡ Nothing
-      go Nothing p = refl
-      go (At j) p =
+      go : (x : Found) → newest_to U.edge U.version (latest_of U u) v U.counts.edges ≡ x → x ≡ None
+      go None p = refl
+      go (Some j) p =
           let z = newest_to-found U.edge U.version _ _ _ j p in
           let x = edge_again i g (sym q) u v k h (edge_to U u v j.0 z.0 z.1.0 z.1.1) in
           absurd (newest_to-none T.edge T.version _ _ _ n x.edge.number x.edge.inside (x.edge.from, ap (owner_of T) x.edge.to ∙ x.owner))
@@ -90,18 +90,18 @@ module _ {T U : Trail} {hs js : List Item} (g : Grown T hs) (i : Grown U js) (q 
       go false p true r = absurd (gives_some i g (sym q) x k h r p)
 
   module _ (e : Event) (source_in : e.source.0 < ne T) (target_in : e.target.0 < ne T) (source-again : e.source.0 < ne U) (target-again : e.target.0 < ne U) where
-    repeat_again : repeat_of T e ≡ Nothing → repeat_of U e ≡ Nothing
+    repeat_again : repeat_of T e ≡ None → repeat_of U e ≡ None
     unfolding repeat_of
     repeat_again h = go (folds e.kind) h
       where
-        go : (b : Bool) → cond b (newest_to T.edge T.version (latest_of T e.source.0) e.target.0 T.counts.edges) Nothing ≡ Nothing
-            → cond b (newest_to U.edge U.version (latest_of U e.source.0) e.target.0 U.counts.edges) Nothing ≡ Nothing
+        go : (b : Bool) → cond b (newest_to T.edge T.version (latest_of T e.source.0) e.target.0 T.counts.edges) None ≡ None
+            → cond b (newest_to U.edge U.version (latest_of U e.source.0) e.target.0 U.counts.edges) None ≡ None
         go true h = nothing_again g i q _ _ source_in source-again h
         go false h = refl
 
-    kept_nothing : (x : Found) (b : Bool) → item_of (decide x b) e ≡ kept e → x ≡ Nothing
-    kept_nothing (At k) b h = absurd (let z : ◌≡◌ {A = ℕ} 0 1 = cc in omega arith)
-    kept_nothing Nothing b h = refl
+    kept_nothing : (x : Found) (b : Bool) → item_of (decide x b) e ≡ kept e → x ≡ None
+    kept_nothing (Some k) b h = absurd (let z : ◌≡◌ {A = ℕ} 0 1 = cc in omega arith)
+    kept_nothing None b h = refl
 
     -- an event that the one keeps, the other keeps alike
     pub decision_again : item_of (decision_of T e) e ≡ kept e → decision_of U e ≡ decision_of T e

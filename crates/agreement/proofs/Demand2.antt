@@ -1,12 +1,12 @@
 -- Demand 2: after any list of calls the counts and rows in use are those of the plain list, and a batch's answer says by how many
 -- records that list grew.
+use Rattle.std.specs.Prelude.{Ok, Err}
 use Prim.Native.Nat.{ℕ, suc, ◌+◌, ◌≤◌, ◌<◌}
 use native.Mathlib.Omega.{arith}
 use mathlib.Core.Path.{◌≡◌, refl, sym, ◌∙◌, ap, subst}
 use mathlib.Core.List.{List, [], ◌∷◌, ◌++◌, reverse, reverse_aux-eq}
 use lib.ListN.{length, take}
-use Rattle.refusals.specs.declared.Checked.{Checked}
-use Rattle.refusals.specs.declared.Checked.TheVariants.{Passed, Refused}
+use Rattle.refusals.specs.Refusals.{Checked}
 use Rattle.refusals.specs.Refusals.{first_of, number_of}
 use Rattle.rows.specs.declared.Counts.{Counts}
 use Rattle.rows.specs.declared.EdgeRow.{EdgeRow}
@@ -131,11 +131,11 @@ module _ (cap : Capacity) (w : Within cap) where
       rest_tried = tried_in (change_of (trail_of c t) r).counts (written t (change_of (trail_of c t) r).writes) more
 
       go : (x : Checked) → refusal_of cap (worked rs) r ≡ x
-          → (refusal_of cap (worked rs) r ≡ Passed → Taking (n + 1) more (r ∷ rs) (added cap (r ∷ rs) more) (refused_at cap (r ∷ rs) more ending) rest rest_tried)
+          → (refusal_of cap (worked rs) r ≡ Ok tt → Taking (n + 1) more (r ∷ rs) (added cap (r ∷ rs) more) (refused_at cap (r ∷ rs) more ending) rest rest_tried)
           → Taking n (r ∷ more) rs (if_refused x rs (added cap (r ∷ rs) more)) (if_refused x x (refused_at cap (r ∷ rs) more ending)) (if_refused x (results x n c t) rest)
           (if_refused x 0 (tried_for (trail_of c t) r + rest_tried))
-      go Passed q ih = taking_next r rs (tried_for (trail_of c t) r) (tried_as_worked cap w c t rs y r q) (ih q)
-      go (Refused x) q ih = taking_none n (Refused x) c t (r ∷ more) rs
+      go (Ok tt) q ih = taking_next r rs (tried_for (trail_of c t) r) (tried_as_worked cap w c t rs y r q) (ih q)
+      go (Err x) q ih = taking_none n (Err x) c t (r ∷ more) rs
 
   batch_taking : (c : Counts) (t : Tables) (rs : List Record) → Ready cap c t rs → (file : List ℕ)
       → Taking 0 (contents_of file).records rs (added_by cap rs file) (refused_by cap rs file) (results_of c t file) (tried_of c t file)
@@ -153,8 +153,8 @@ module _ (cap : Capacity) (w : Within cap) where
       go : (x : Checked) → Taking 0 (contents_of file).records rs (added cap rs (contents_of file).records) last rest (tried_in c t (contents_of file).records)
           → Taking 0 (contents_of file).records rs (if_refused x rs (added cap rs (contents_of file).records)) (if_refused x x last) (if_refused x (results x 0 c t) rest)
           (if_refused x 0 (tried_in c t (contents_of file).records))
-      go Passed z = z
-      go (Refused x) z = taking_none 0 (Refused x) c t (contents_of file).records rs
+      go (Ok tt) z = z
+      go (Err x) z = taking_none 0 (Err x) c t (contents_of file).records rs
 
 held-answer : (cs : List Call) → AllLent cs → (t : Tables) → Lent (held_after cs) t → (file : List ℕ)
     → Answered (plain_after cs) t file (plain_after (batch t file ∷ cs)) (batch_of (held_after cs).counts t file).answer

@@ -1,4 +1,5 @@
 -- Document 01's rule is one of the workings that the trace theorem is about: what each record does to the rows.
+use Rattle.std.specs.Prelude.{Some, None}
 use Prim.Native.Nat.{ℕ, zero, suc, ◌≤◌, ◌<◌}
 use native.Mathlib.Omega.{arith}
 use native.Mathlib.Nat.{eq-or-lt_of_le}
@@ -15,8 +16,7 @@ use Rattle.rows.specs.declared.EdgeRow.{EdgeRow}
 use Rattle.record.specs.declared.Declaration.{Declaration}
 use Rattle.record.specs.declared.Event.{Event}
 use Rattle.record.specs.declared.Signature.{Signature}
-use Rattle.rules.specs.declared.Found.{Found}
-use Rattle.rules.specs.declared.Found.TheVariants.{At, Nothing}
+use Rattle.rules.specs.Decide.{Found}
 use Rattle.rules.specs.declared.Decision.{Decision}
 use Rattle.rules.specs.declared.Decision.TheVariants.{Repeat, Widen}
 use Rattle.rules.specs.Trail.{Capacity, Trail, none, latest_of}
@@ -57,9 +57,9 @@ module _ (T : Trail) (e : Event) where
       }
 
   decided_widen : (x : Found) (g : Bool) → decide x g ≡ Widen → g ≡ false
-  decided_widen (At j) g h = absurd (let z : ◌≡◌ {A = ℕ} 0 1 = cc in omega arith)
-  decided_widen Nothing true h = absurd (let z : ◌≡◌ {A = ℕ} 0 1 = cc in omega arith)
-  decided_widen Nothing false h = refl
+  decided_widen (Some j) g h = absurd (let z : ◌≡◌ {A = ℕ} 0 1 = cc in omega arith)
+  decided_widen None true h = absurd (let z : ◌≡◌ {A = ℕ} 0 1 = cc in omega arith)
+  decided_widen None false h = refl
 
   widen_unused : decision_of T e ≡ Widen → Unused T (latest_of T e.target.0)
   unfolding decision_of has_outgoing

@@ -1,11 +1,11 @@
 -- Two trails with the same counts and rows in use: a record is refused alike, and decided alike, and as many edges are tried for it.
+use Rattle.std.specs.Prelude.{Ok, Some, None}
 use Prim.Native.Nat.{ℕ, zero, suc, ◌<◌}
 use native.Mathlib.Omega.{arith}
 use mathlib.Core.Path.{◌≡◌, refl, sym, ◌∙◌, ap}
 use mathlib.Core.Bool.{Bool, true, false, ◌&&◌, ◌||◌, cond}
 use lib.Dec.{leb, eqb}
 use borrow.Author.Tests.{leb-false}
-use Rattle.refusals.specs.declared.Checked.TheVariants.{Passed}
 use Rattle.refusals.specs.Refusals.{first_of}
 use Rattle.rows.specs.declared.Counts.{Counts}
 use Rattle.rows.specs.declared.EntityRow.{EntityRow}
@@ -15,7 +15,6 @@ use Rattle.record.specs.declared.Event.{Event}
 use Rattle.record.specs.declared.Record.{Record}
 use Rattle.record.specs.declared.Record.TheVariants as records
 use Rattle.record.specs.declared.Signature.{Signature}
-use Rattle.rules.specs.declared.Found.TheVariants.{Nothing, At}
 use Rattle.rules.specs.Trail.{Capacity, Trail, latest_of}
 use Rattle.rules.specs.Decide.{goes_to, newest_to, leaves, folds, repeat_of, has_outgoing, decide, decision_of, edge_no}
 use Rattle.rules.specs.Record.{declaration_refusals, early_refusals, room_refusals, event_refusals, refusal_of, to_hit, tried_for, signature_refusals}
@@ -37,7 +36,7 @@ module _ (E E' : ℕ → EdgeRow) (W W' : ℕ → VersionRow) (f x : ℕ) where
   unfolding newest_to
   newest_to-same zero p q = refl
   newest_to-same (suc n) p q = λ j.
-      cond (goes_to-same n (p n (omega arith)) (q n (omega arith)) j) (At (edge_no n)) (newest_to-same n (λ k l. p k (omega arith)) (λ k l. q k (omega arith)) j)
+      cond (goes_to-same n (p n (omega arith)) (q n (omega arith)) j) (Some (edge_no n)) (newest_to-same n (λ k l. p k (omega arith)) (λ k l. q k (omega arith)) j)
 
 leaves-same : (E E' : ℕ → EdgeRow) (f n : ℕ) → ((k : ℕ) → k < n → E k ≡ E' k) → leaves E f n ≡ leaves E' f n
 unfolding leaves
@@ -57,7 +56,7 @@ module _ {T T' : Trail} (q : T.counts ≡ T'.counts) (s : SameRows T T') (f : Ro
     repeat_same =
         let a = newest_to-same T.edge T'.edge T.version T'.version (latest_of T e.source.0) e.target.0 T.counts.edges s.edge_rows
         (λ n l. s.version_rows (T.edge n).to.0 (f.edge n l).to_in) in
-        λ j. cond (folds e.kind) ((a ∙ (λ h. newest_to T'.edge T'.version (latest_same e.source.0 i h) e.target.0 (s.edges h))) j) Nothing
+        λ j. cond (folds e.kind) ((a ∙ (λ h. newest_to T'.edge T'.version (latest_same e.source.0 i h) e.target.0 (s.edges h))) j) None
 
     gives_same : has_outgoing T e.target.0 ≡ has_outgoing T' e.target.0
     unfolding has_outgoing
@@ -99,7 +98,7 @@ module _ {T T' : Trail} (q : T.counts ≡ T'.counts) (s : SameRows T T') (f : Ro
   refusal-same cap (records.Event e) = undeclared_same cap e _ refl _ refl
   refusal-same cap (records.Signature g) = signature_same g _ refl
 
-  pub tried_same : (cap : Capacity) (r : Record) → refusal_of cap T r ≡ Passed → tried_for T r ≡ tried_for T' r
+  pub tried_same : (cap : Capacity) (r : Record) → refusal_of cap T r ≡ Ok tt → tried_for T r ≡ tried_for T' r
   unfolding refusal_of tried_for
   tried_same cap (records.Declaration d) h = refl
   tried_same cap (records.Event e) h = let z = event-taken cap T e h in tried_event e z.source_in z.target_in

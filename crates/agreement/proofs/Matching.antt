@@ -1,11 +1,11 @@
 -- After any list of calls the counts and rows in use are those that the plain list gives when worked from none.
+use Rattle.std.specs.Prelude.{Ok, Err}
 use Prim.Native.Nat.{ℕ, ◌+◌}
 use native.Mathlib.Omega.{arith}
 use mathlib.Core.Path.{◌≡◌, refl, sym, ◌∙◌, ap, subst}
 use mathlib.Core.Bool.{true}
 use mathlib.Core.List.{List, [], ◌∷◌}
-use Rattle.refusals.specs.declared.Checked.{Checked}
-use Rattle.refusals.specs.declared.Checked.TheVariants.{Passed, Refused}
+use Rattle.refusals.specs.Refusals.{Checked}
 use Rattle.refusals.specs.Refusals.{first_of}
 use Rattle.rows.specs.declared.Counts.{Counts}
 use Rattle.rows.proofs.Capacity.{entities_most, versions_most, edges_most}
@@ -95,10 +95,10 @@ module _ (cap : Capacity) (w : Within cap) where
         ap (λ (k : Capacity). refusal_of k (trail_of c t) r) y.capacity
         ∙ sym (refusal-same y.alike.counts y.alike.rows (taken_fine y.taken).rows cap r)
 
-    pub tried_as_worked : refusal_of cap (worked rs) r ≡ Passed → tried_for (trail_of c t) r ≡ tried_for (worked rs) r
+    pub tried_as_worked : refusal_of cap (worked rs) r ≡ Ok tt → tried_for (trail_of c t) r ≡ tried_for (worked rs) r
     tried_as_worked h = sym (tried_same y.alike.counts y.alike.rows (taken_fine y.taken).rows cap r h)
 
-    pub ready_next : SortFits r → refusal_of cap (worked rs) r ≡ Passed
+    pub ready_next : SortFits r → refusal_of cap (worked rs) r ≡ Ok tt
         → Ready cap (change_of (trail_of c t) r).counts (written t (change_of (trail_of c t) r).writes) (r ∷ rs)
     ready_next s h =
         let p = checked-same ∙ h in
@@ -125,10 +125,10 @@ module _ (cap : Capacity) (w : Within cap) where
       stop : Checked → Results
       stop x = results x n c t
 
-      go : (x : Checked) → refusal_of cap (worked rs) r ≡ x → (refusal_of cap (worked rs) r ≡ Passed → Ready cap rest.counts rest.tables (added cap (r ∷ rs) more))
+      go : (x : Checked) → refusal_of cap (worked rs) r ≡ x → (refusal_of cap (worked rs) r ≡ Ok tt → Ready cap rest.counts rest.tables (added cap (r ∷ rs) more))
           → Ready cap (if_refused x (stop x) rest).counts (if_refused x (stop x) rest).tables (if_refused x rs (added cap (r ∷ rs) more))
-      go Passed q ih = ih q
-      go (Refused x) q ih = y
+      go (Ok tt) q ih = ih q
+      go (Err x) q ih = y
 
   batch_ready : (c : Counts) (t : Tables) (rs : List Record) → Ready cap c t rs → (file : List ℕ)
       → Ready cap (batch_of c t file).counts (batch_of c t file).tables (added_by cap rs file)
@@ -142,8 +142,8 @@ module _ (cap : Capacity) (w : Within cap) where
 
       go : (x : Checked) → Ready cap rest.counts rest.tables (added cap rs (contents_of file).records)
           → Ready cap (if_refused x (results x 0 c t) rest).counts (if_refused x (results x 0 c t) rest).tables (if_refused x rs (added cap rs (contents_of file).records))
-      go Passed z = z
-      go (Refused x) z = y
+      go (Ok tt) z = z
+      go (Err x) z = y
 
 pub matches : (cs : List Call) → AllLent cs → Matches (held_after cs) (plain_after cs)
 matches [] a = record {

@@ -1,9 +1,9 @@
 -- A record that meets no condition of a refusal is taken in; and what a kept event does to the counts and the sorts.
+use Rattle.std.specs.Prelude.{Ok}
 use Prim.Native.Nat.{ℕ, ◌+◌}
 use native.Mathlib.Omega.{arith}
 use mathlib.Core.Path.{◌≡◌, refl}
 use borrow.Author.Tests.{lt-leb, le-leb, eq-eqb, ne_eqb}
-use Rattle.refusals.specs.declared.Checked.TheVariants.{Passed}
 use Rattle.refusals.specs.Refusals.{first_of}
 use Rattle.refusals.proofs.Checks.{not_false_of, AllFalse, all_false_passed}
 use Rattle.rows.specs.declared.Counts.{Counts}
@@ -20,7 +20,7 @@ use Rattle.rules.specs.History.{kept, item_of}
 use Rattle.soundness.specs.Taken.{DeclarationTaken, RoomLeft, EventTaken, SignatureTaken}
 use Rattle.soundness.proofs.Put.{put_keeps}
 
-pub declaration-passes : (cap : Capacity) (c : Counts) (d : Declaration) → DeclarationTaken cap c d → first_of (declaration_refusals cap c d) ≡ Passed
+pub declaration-passes : (cap : Capacity) (c : Counts) (d : Declaration) → DeclarationTaken cap c d → first_of (declaration_refusals cap c d) ≡ Ok tt
 unfolding declaration_refusals
 declaration-passes cap c d p =
     all_false_passed _ (not_false_of _ (eq-eqb _ _ p.next), (lt-leb _ _ p.entities_left, (lt-leb _ _ p.versions_left, tt)))
@@ -31,7 +31,7 @@ room-passes cap c (Repeat k) l = tt
 room-passes cap c Widen l = (lt-leb _ _ l, tt)
 room-passes cap c Renew l = (lt-leb _ _ l.0, (lt-leb _ _ l.1, tt))
 
-pub event-passes : (cap : Capacity) (T : Trail) (e : Event) (d : Decision) → EventTaken cap T e d → first_of (event_refusals cap T e d) ≡ Passed
+pub event-passes : (cap : Capacity) (T : Trail) (e : Event) (d : Decision) → EventTaken cap T e d → first_of (event_refusals cap T e d) ≡ Ok tt
 unfolding early_refusals event_refusals may_follow
 event-passes cap T e d p =
     all_false_passed _ (
@@ -57,7 +57,7 @@ event-passes cap T e d p =
       ),
     )
 
-pub signature_passes : (T : Trail) (g : Signature) → SignatureTaken T g → first_of (signature_refusals T.counts T.entity g) ≡ Passed
+pub signature_passes : (T : Trail) (g : Signature) → SignatureTaken T g → first_of (signature_refusals T.counts T.entity g) ≡ Ok tt
 unfolding signature_refusals
 signature_passes T g p = all_false_passed _ (lt-leb _ _ p.entity_in, (p.object, (p.unsigned, tt)))
 

@@ -1,9 +1,9 @@
 -- A plain list whose records are taken in: its working is grown as the trace theorem asks, its rows are sound.
+use Rattle.std.specs.Prelude.{Ok}
 use Prim.Native.Nat.{◌<◌}
 use native.Mathlib.Omega.{arith}
 use mathlib.Core.Path.{◌≡◌, refl, sym, subst}
 use mathlib.Core.List.{List, ◌∷◌, []}
-use Rattle.refusals.specs.declared.Checked.TheVariants.{Passed}
 use Rattle.record.specs.declared.Event.{Event}
 use Rattle.record.specs.declared.Record.{Record}
 use Rattle.record.specs.declared.Record.TheVariants as records
@@ -57,12 +57,12 @@ module _ (cap : Capacity) (w : Within cap) (T : Trail) (hs : List Item) (f : Fin
 
 -- one record more
 
-counts_next : (cap : Capacity) → Within cap → (T : Trail) → CountFacts greatest T.counts → (r : Record) → refusal_of cap T r ≡ Passed
+counts_next : (cap : Capacity) → Within cap → (T : Trail) → CountFacts greatest T.counts → (r : Record) → refusal_of cap T r ≡ Ok tt
     → CountFacts greatest (changed T (change_of T r)).counts
 counts_next cap w T g r h = subst (CountFacts greatest) (sym (counts-changed T (change_of T r))) (step_counts cap greatest w.entities w.versions w.edges T g r h)
 
 fine_next : (cap : Capacity) → Within cap → (rs : List Record) → Fine (worked rs) (items_of rs) → (r : Record) → SortFits r
-    → refusal_of cap (worked rs) r ≡ Passed → Fine (worked (r ∷ rs)) (items_of (r ∷ rs))
+    → refusal_of cap (worked rs) r ≡ Ok tt → Fine (worked (r ∷ rs)) (items_of (r ∷ rs))
 unfolding refusal_of change_of
 fine_next cap w rs f (records.Declaration d) s h = record {
   rows = step_rows cap (worked rs) (records.Declaration d) s h f.rows;

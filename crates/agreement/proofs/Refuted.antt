@@ -1,4 +1,5 @@
 -- Each wrong answer contradicts the claim: the worked list of calls has one answer (`WorkedAnswers`), and it is another.
+use Rattle.std.specs.Prelude.{Ok, Err}
 use Prim.Native.Nat.{ℕ, ◌+◌}
 use native.Mathlib.Omega.{arith}
 use mathlib.Core.Path.{◌≡◌, refl, sym, ◌∙◌, ap}
@@ -8,7 +9,6 @@ use mathlib.Core.List.{List, [], ◌∷◌}
 use lib.ListN.{length, replicate}
 use lib.Dec.{leb, ltb}
 use Rattle.refusals.specs.declared.Refusal.TheVariants.{Unsound, Undeclared, BufferShort}
-use Rattle.refusals.specs.declared.Checked.TheVariants.{Passed, Refused}
 use Rattle.refusals.specs.Refusals.{first_of, refusal_no, number_of}
 use Rattle.rows.specs.declared.Counts.{Counts}
 use Rattle.record.specs.declared.Record.{Record}
@@ -55,14 +55,14 @@ not_16 : (rs : List Record) (xs work marks : List ℕ) → number_of (first_of (
 unfolding first_of
 not_16 rs [] work marks = go (ltb (length work) (worked rs).counts.versions) (ltb (length marks) (worked rs).counts.entities)
   where
-    go : (b d : Bool) → number_of (cond b (Refused BufferShort) (cond d (Refused BufferShort) Passed)) ≡ refusal_no Unsound → ⊥
+    go : (b d : Bool) → number_of (cond b (Err BufferShort) (cond d (Err BufferShort) (Ok tt))) ≡ refusal_no Unsound → ⊥
     go true d q = omega arith
     go false true q = omega arith
     go false false q = omega arith
 not_16 rs (x ∷ xs) work marks = go (leb (worked rs).counts.entities x) (not_16 rs xs work marks)
   where
     go : (a : Bool) → (number_of (first_of (trace_refusals (worked rs).counts xs work marks)) ≡ refusal_no Unsound → ⊥)
-        → number_of (cond a (Refused Undeclared) (first_of (trace_refusals (worked rs).counts xs work marks))) ≡ refusal_no Unsound → ⊥
+        → number_of (cond a (Err Undeclared) (first_of (trace_refusals (worked rs).counts xs work marks))) ≡ refusal_no Unsound → ⊥
     go true ih q = omega arith
     go false ih q = ih q
 

@@ -1,10 +1,10 @@
 -- The kept log as a plain list, the last record first; its declarations are taken in again.
+use Rattle.std.specs.Prelude.{Ok}
 use Prim.Native.Nat.{ℕ, zero, suc, ◌≤◌, ◌<◌}
 use native.Mathlib.Omega.{arith}
 use native.Mathlib.Decide.{ℕ_discrete}
 use mathlib.Core.Path.{◌≡◌, refl, sym, ◌∙◌, ap}
 use mathlib.Core.List.{List, [], ◌∷◌}
-use Rattle.refusals.specs.declared.Checked.TheVariants.{Passed}
 use Rattle.rows.specs.declared.EntityRow.{EntityRow}
 use Rattle.record.specs.declared.Event.{Event}
 use Rattle.record.specs.declared.Record.{Record}
@@ -33,7 +33,7 @@ relogged F (e ∷ ks) = records.Event e ∷ relogged F ks
 -- each record is taken in with capacity cap
 abbrev pub TakenBy : Capacity → List Record → Type 0
 TakenBy cap [] = Unit {0}
-TakenBy cap (r ∷ rs) = (SortFits r × (refusal_of cap (worked rs) r ≡ Passed)) × TakenBy cap rs
+TakenBy cap (r ∷ rs) = (SortFits r × (refusal_of cap (worked rs) r ≡ Ok tt)) × TakenBy cap rs
 
 pub taken_by_taken : (cap : Capacity) → Within cap → (rs : List Record) → TakenBy cap rs → Taken rs
 taken_by_taken cap w [] a = begun
@@ -65,7 +65,7 @@ module _ (F : Trail) (cap : Capacity) (room : EnoughRows cap F.counts)
     sorts = λ x h. go x h (ℕ_discrete x n);
   }
     where
-      passes : refusal_of cap (worked rs) (declaration_record F n) ≡ Passed
+      passes : refusal_of cap (worked rs) (declaration_record F n) ≡ Ok tt
       passes = declaration-passes cap (worked rs).counts _ (record {
         next = sym o.entities;
         entities_left = omega (arith, o.entities, room.entities);

@@ -1,4 +1,5 @@
 -- Demand 2's round trip: the kept log, taken into a fresh trail with as many rows, yields the same entities, kept events and traces.
+use Rattle.std.specs.Prelude.{Ok, Err}
 use Prim.Native.Nat.{ℕ, ◌+◌, ◌<◌}
 use native.Mathlib.Omega.{arith}
 use mathlib.Core.Path.{◌≡◌, refl, sym, ◌∙◌, ap, subst}
@@ -7,8 +8,7 @@ use mathlib.Core.List.{List, reverse}
 use lib.ListN.{length}
 use lib.Dec.{ltb}
 use Rattle.refusals.specs.declared.Refusal.TheVariants.{OutputShort}
-use Rattle.refusals.specs.declared.Checked.{Checked}
-use Rattle.refusals.specs.declared.Checked.TheVariants.{Passed, Refused}
+use Rattle.refusals.specs.Refusals.{Checked}
 use Rattle.refusals.specs.Refusals.{refusal_no, first_of, number_of}
 use Rattle.rows.specs.declared.Counts.{Counts}
 use Rattle.rows.specs.declared.EntityRow.{EntityRow}
@@ -48,7 +48,7 @@ use Rattle.soundness.proofs.Counted.{signed_same}
 
 -- The checks of a writer over sound tables: it is refused with 15, or passes
 abbrev short : Bool → Checked
-short b = cond b (Refused OutputShort) Passed
+short b = cond b (Err OutputShort) (Ok tt)
 
 -- trails with the same counts and sorts have logs of the same length
 length_alike : (T U : Trail) → U.counts ≡ T.counts → ((x : ℕ) → x < U.counts.entities → (T.entity x).sort ≡ (U.entity x).sort)
@@ -75,11 +75,11 @@ module _ (c : Counts) (t : Tables) (out : List ℕ) (s : is_sound (capacity_of t
       let e = length_alike (trail_of c t) (worked rs) a.counts (λ x l. ap (λ (r : EntityRow). r.sort) (sym (a.rows.entity_rows x l))) in
       rw s (answered_number (ltb (length out) (length (log_bytes (trail_of c t)))) ∙ ap (λ (n : ℕ). cond (ltb (length out) n) (refusal_no OutputShort) 0) e)
 
-  log_passed : (kept_log_of c t out).answer.refusal ≡ 0 → first_of (log_checks c t out) ≡ Passed
+  log_passed : (kept_log_of c t out).answer.refusal ≡ 0 → first_of (log_checks c t out) ≡ Ok tt
   unfolding kept_log_of log_checks first_of
   log_passed = rw s (go (ltb (length out) (length (log_bytes (trail_of c t)))))
     where
-      go : (b : Bool) → (answered b).answer.refusal ≡ 0 → short b ≡ Passed
+      go : (b : Bool) → (answered b).answer.refusal ≡ 0 → short b ≡ Ok tt
       go true q = absurd (omega arith)
       go false q = refl
 
@@ -178,7 +178,7 @@ module _ (h : Held) (rs : List Record) (m : Matches h rs) (t : Tables) (l : Lent
         }
 
   -- the log, as what the writer leaves
-  module _ (file : List ℕ) (header : first_of (header_checks file) ≡ Passed) (contents : contents_of file ≡ wholly (log_records T)) where
+  module _ (file : List ℕ) (header : first_of (header_checks file) ≡ Ok tt) (contents : contents_of file ≡ wholly (log_records T)) where
     turned : log_records T ≡ reverse R
     turned = log_records-reverse T ks first.faithful.edges first.faithful.log
 

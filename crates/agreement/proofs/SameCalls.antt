@@ -1,4 +1,5 @@
 -- Sound trails with the same entities, kept events and traces: traces are refused alike and answer alike, and the kept logs are equal.
+use Rattle.std.specs.Prelude.{Ok, Err}
 use Prim.Native.Nat.{ℕ, ◌<◌}
 use mathlib.Core.Path.{◌≡◌, refl, sym, ◌∙◌, ap}
 use mathlib.Core.Bool.{true, not, cond}
@@ -6,8 +7,7 @@ use mathlib.Core.List.{List, [], ◌∷◌, ◌++◌}
 use lib.ListN.{length}
 use lib.Dec.{ltb, eqb}
 use Rattle.refusals.specs.declared.Refusal.TheVariants.{Unsound, BufferShort, OutputShort}
-use Rattle.refusals.specs.declared.Checked.{Checked}
-use Rattle.refusals.specs.declared.Checked.TheVariants.{Passed, Refused}
+use Rattle.refusals.specs.Refusals.{Checked}
 use Rattle.refusals.specs.Refusals.{check, first_of, number_of}
 use Rattle.rows.specs.declared.Counts.{Counts}
 use Rattle.rows.specs.Rows.{entity_no}
@@ -28,9 +28,9 @@ use Rattle.agreement.specs.RoundTrip.{SameTrail, SameCalls}
 use Rattle.soundness.proofs.Counted.{signed_same}
 
 -- what is read of a call that goes on or stops
-if_refused-same : {A B : Type 0} (f : A → B) (x : Checked) (stop on on' : A) → (x ≡ Passed → f on ≡ f on') → f (if_refused x stop on) ≡ f (if_refused x stop on')
-if_refused-same f Passed stop on on' h = h refl
-if_refused-same f (Refused r) stop on on' h = refl
+if_refused-same : {A B : Type 0} (f : A → B) (x : Checked) (stop on on' : A) → (x ≡ Ok tt → f on ≡ f on') → f (if_refused x stop on) ≡ f (if_refused x stop on')
+if_refused-same f (Ok tt) stop on on' h = h refl
+if_refused-same f (Err r) stop on on' h = refl
 
 -- two trails with the same entities and kept events, as many versions, and the same traces
 pub record SameTraces (T U : Trail) : Type 0 where

@@ -1,5 +1,6 @@
 -- Document 02, 2.4, of a plain list whose records are taken in: the last time is that of the last event, an entity is signed exactly if its
 -- signature is among the records, and after it no event into it and no signature of it is taken in.
+use Rattle.std.specs.Prelude.{Ok}
 use Prim.Native.Nat.{ℕ, ◌<◌}
 use native.Mathlib.Omega.{arith}
 use native.Mathlib.Decide.{ℕ_discrete}
@@ -7,7 +8,6 @@ use mathlib.Core.Path.{◌≡◌, refl, sym, ◌∙◌, ap, subst}
 use mathlib.Core.Logic.{◌⊎◌, inl, inr, ◌↔◌}
 use mathlib.Core.List.Memᴰ
 use mathlib.Core.List.{List, [], ◌∷◌, ◌++◌, Memᴰ}
-use Rattle.refusals.specs.declared.Checked.TheVariants.{Passed}
 use Rattle.rows.specs.declared.EntityRow.{EntityRow}
 use Rattle.record.specs.declared.Signature.{Signature}
 use Rattle.record.specs.declared.Record.{Record}
@@ -48,16 +48,16 @@ pub signed_member : {rs : List Record} → Taken rs → (x : ℕ) → SignedAt (
 signed_member begun x z = absurd (omega (arith, z.0))
 signed_member (next {rs = rs} t cap w r f h) x z = go (signed_member t x) r f h z
   where
-    other : (SignedAt (worked rs) x → Memᴰ (signature_record x) rs) → (r : Record) → SortFits r → refusal_of cap (worked rs) r ≡ Passed → (signature_record x ≡ r → ⊥)
+    other : (SignedAt (worked rs) x → Memᴰ (signature_record x) rs) → (r : Record) → SortFits r → refusal_of cap (worked rs) r ≡ Ok tt → (signature_record x ≡ r → ⊥)
         → SignedAt (worked (r ∷ rs)) x → Memᴰ (signature_record x) (r ∷ rs)
     other ih r f h n z = Memᴰ.tail (ih (signed_before cap rs x r f h n z))
 
-    at : (SignedAt (worked rs) x → Memᴰ (signature_record x) rs) → (g : Signature) → refusal_of cap (worked rs) (records.Signature g) ≡ Passed
+    at : (SignedAt (worked rs) x → Memᴰ (signature_record x) rs) → (g : Signature) → refusal_of cap (worked rs) (records.Signature g) ≡ Ok tt
         → SignedAt (worked (records.Signature g ∷ rs)) x → Dec (x ≡ g.entity.0) → Memᴰ (signature_record x) (records.Signature g ∷ rs)
     at ih g h z (yes e) = Memᴰ.head (ap signature_record e)
     at ih g h z (no e) = other ih (records.Signature g) tt h (λ p. e (ap signed_of p)) z
 
-    go : (SignedAt (worked rs) x → Memᴰ (signature_record x) rs) → (r : Record) → SortFits r → refusal_of cap (worked rs) r ≡ Passed → SignedAt (worked (r ∷ rs)) x
+    go : (SignedAt (worked rs) x → Memᴰ (signature_record x) rs) → (r : Record) → SortFits r → refusal_of cap (worked rs) r ≡ Ok tt → SignedAt (worked (r ∷ rs)) x
         → Memᴰ (signature_record x) (r ∷ rs)
     go ih (records.Declaration d) f h z = other ih (records.Declaration d) f h (λ e. let k : ◌≡◌ {A = ℕ} 0 1 = cc in omega arith) z
     go ih (records.Event e) f h z = other ih (records.Event e) f h (λ p. let k : ◌≡◌ {A = ℕ} 0 1 = cc in omega arith) z

@@ -1,11 +1,11 @@
 -- Document 02, 2.4: what a record that is taken in does to the signed, and that it goes into none of them.
+use Rattle.std.specs.Prelude.{Ok}
 use Prim.Native.Nat.{ℕ}
 use native.Mathlib.Omega.{arith}
 use native.Mathlib.Decide.{ℕ_discrete}
 use mathlib.Core.Path.{◌≡◌, refl, sym, ◌∙◌, ap}
 use mathlib.Core.Bool.{true, true≢false}
 use mathlib.Core.List.{List, ◌∷◌}
-use Rattle.refusals.specs.declared.Checked.TheVariants.{Passed}
 use Rattle.rows.specs.declared.EntityRow.{EntityRow}
 use Rattle.rows.specs.Rows.{entity_no, entity_row}
 use Rattle.record.specs.declared.Event.{Event}
@@ -38,7 +38,7 @@ event_entities T e Renew = refl
 
 module _ (cap : Capacity) (rs : List Record) (x : ℕ) where
   -- a record that is no signature of x leaves x as it is
-  pub signed_before : (r : Record) → SortFits r → refusal_of cap (worked rs) r ≡ Passed → (signature_record x ≡ r → ⊥) → SignedAt (worked (r ∷ rs)) x → SignedAt (worked rs) x
+  pub signed_before : (r : Record) → SortFits r → refusal_of cap (worked rs) r ≡ Ok tt → (signature_record x ≡ r → ⊥) → SignedAt (worked (r ∷ rs)) x → SignedAt (worked rs) x
   unfolding refusal_of change_of
   signed_before (records.Declaration d) f h n (l, q) = go (ℕ_discrete x (worked rs).counts.entities)
     where
@@ -54,7 +54,7 @@ module _ (cap : Capacity) (rs : List Record) (x : ℕ) where
   signed_before (records.Signature g) f h n (l, q) =
       (l, ap (λ (r : EntityRow). is_signed r.sort) (sym (put_other (worked rs).entity g.entity.0 _ x (λ e. n (ap signature_record e)))) ∙ q)
 
-  pub signed-after : (r : Record) → refusal_of cap (worked rs) r ≡ Passed → SignedAt (worked rs) x → SignedAt (worked (r ∷ rs)) x
+  pub signed-after : (r : Record) → refusal_of cap (worked rs) r ≡ Ok tt → SignedAt (worked rs) x → SignedAt (worked (r ∷ rs)) x
   unfolding refusal_of change_of
   signed-after (records.Declaration d) h (l, q) =
       (omega arith, ap (λ (r : EntityRow). is_signed r.sort) (put_other (worked rs).entity _ _ x (λ e. omega arith)) ∙ q)
@@ -73,7 +73,7 @@ module _ (cap : Capacity) (rs : List Record) (x : ℕ) where
       go (no e) = ap (λ (r : EntityRow). is_signed r.sort) (put_other (worked rs).entity g.entity.0 row x e) ∙ q
 
   -- its signature signs it
-  pub signed_now : refusal_of cap (worked rs) (signature_record x) ≡ Passed → SignedAt (worked (signature_record x ∷ rs)) x
+  pub signed_now : refusal_of cap (worked rs) (signature_record x) ≡ Ok tt → SignedAt (worked (signature_record x ∷ rs)) x
   unfolding refusal_of change_of
   signed_now h = (
     (signature_taken (worked rs) (record { entity = entity_no x }) h).entity_in,
@@ -81,7 +81,7 @@ module _ (cap : Capacity) (rs : List Record) (x : ℕ) where
   )
 
   -- and then nothing enters it
-  pub not_entered : (r : Record) → refusal_of cap (worked rs) r ≡ Passed → SignedAt (worked rs) x → Enters x r → ⊥
+  pub not_entered : (r : Record) → refusal_of cap (worked rs) r ≡ Ok tt → SignedAt (worked rs) x → Enters x r → ⊥
   unfolding refusal_of
   not_entered (records.Declaration d) h z e = e
   not_entered (records.Event g) h (l, q) e =

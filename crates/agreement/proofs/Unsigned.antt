@@ -1,5 +1,6 @@
 -- A plain list without its signatures: its records are taken in, since what refuses a record reads of a sort whether it is a subject's, and
 -- whether the object is signed, which none is then.
+use Rattle.std.specs.Prelude.{Ok}
 use Prim.Native.Nat.{ℕ, ◌<◌}
 use native.Mathlib.Omega.{arith}
 use mathlib.Core.Path.{◌≡◌, refl, sym, ◌∙◌, ap, subst}
@@ -7,7 +8,6 @@ use mathlib.Core.Logic.{◌⊎◌, inl, inr}
 use mathlib.Core.Bool.{Bool, true, false}
 use mathlib.Core.List.Memᴰ
 use mathlib.Core.List.{List, [], ◌∷◌, Memᴰ}
-use Rattle.refusals.specs.declared.Checked.TheVariants.{Passed}
 use Rattle.refusals.specs.Refusals.{first_of}
 use Rattle.rows.specs.declared.Counts.{Counts}
 use Rattle.rows.specs.declared.EntityRow.{EntityRow}
@@ -40,7 +40,7 @@ abbrev Subjects : Trail → Trail → Type 0
 Subjects T U = (x : ℕ) → is_subject (T.entity x).sort ≡ is_subject (U.entity x).sort
 
 module _ (cap : Capacity) (rs : List Record) where
-  subjects_next : Subjects (worked (unsigned rs)) (worked rs) → (r : Record) → refusal_of cap (worked rs) r ≡ Passed
+  subjects_next : Subjects (worked (unsigned rs)) (worked rs) → (r : Record) → refusal_of cap (worked rs) r ≡ Ok tt
       → Subjects (worked (unsigned (r ∷ rs))) (worked (r ∷ rs))
   unfolding refusal_of change_of
   subjects_next ih (records.Declaration d) h x =
@@ -108,12 +108,12 @@ module _ (cap : Capacity) {rs : List Record} (t : Taken rs) (u : Taken (unsigned
             (subst (λ (k : Counts). RoomLeft cap k (decision_of U e)) (sym c) p.room_left);
       }
 
-  event_still : refusal_of cap U (records.Event e) ≡ Passed → refusal_of cap T (records.Event e) ≡ Passed
+  event_still : refusal_of cap U (records.Event e) ≡ Ok tt → refusal_of cap T (records.Event e) ≡ Ok tt
   unfolding refusal_of
   event_still h = event-passes cap T e (decision_of T e) (still_taken (event-taken cap U e h))
 
-declaration_still : (cap : Capacity) (rs : List Record) (d : Declaration) → refusal_of cap (worked rs) (records.Declaration d) ≡ Passed
-    → refusal_of cap (worked (unsigned rs)) (records.Declaration d) ≡ Passed
+declaration_still : (cap : Capacity) (rs : List Record) (d : Declaration) → refusal_of cap (worked rs) (records.Declaration d) ≡ Ok tt
+    → refusal_of cap (worked (unsigned rs)) (records.Declaration d) ≡ Ok tt
 unfolding refusal_of
 declaration_still cap rs d h = ap (λ (c : Counts). first_of (declaration_refusals cap c d)) (alike rs).counts ∙ h
 
@@ -121,7 +121,7 @@ unsigned-taken : {rs : List Record} → Taken rs → Taken (unsigned rs)
 unsigned-taken begun = begun
 unsigned-taken (next {rs = rs} t cap w r f h) = go (unsigned-taken t) r f h
   where
-    go : Taken (unsigned rs) → (r : Record) → SortFits r → refusal_of cap (worked rs) r ≡ Passed → Taken (unsigned (r ∷ rs))
+    go : Taken (unsigned rs) → (r : Record) → SortFits r → refusal_of cap (worked rs) r ≡ Ok tt → Taken (unsigned (r ∷ rs))
     go u (records.Declaration d) f h = next u cap w (records.Declaration d) f (declaration_still cap rs d h)
     go u (records.Event e) f h = next u cap w (records.Event e) f (event_still cap t u e h)
     go u (records.Signature g) f h = u

@@ -1,4 +1,5 @@
 -- A signature leaves the counts, the versions, the edges and each entity's latest version, and a decision reads nothing else.
+use Rattle.std.specs.Prelude.{None}
 use Prim.Native.Nat.{ℕ, ◌+◌}
 use mathlib.Core.Path.{◌≡◌, refl, sym, ◌∙◌, ap, subst}
 use mathlib.Core.Bool.{Bool, true, false, cond}
@@ -15,7 +16,6 @@ use Rattle.record.specs.declared.Signature.{Signature}
 use Rattle.record.specs.declared.Record.{Record}
 use Rattle.record.specs.declared.Record.TheVariants as records
 use Rattle.record.specs.Layout.{kind_no}
-use Rattle.rules.specs.declared.Found.TheVariants.{Nothing}
 use Rattle.rules.specs.declared.Decision.{Decision}
 use Rattle.rules.specs.declared.Decision.TheVariants.{Repeat, Widen, Renew}
 use Rattle.rules.specs.Trail.{Trail, none, latest_of}
@@ -69,7 +69,7 @@ module _ {T U : Trail} (a : Alike T U) where
     pub decision_alike : decision_of T e ≡ decision_of U e
     unfolding decision_of repeat_of has_outgoing
     decision_alike = λ j.
-        decide (cond (folds e.kind) (newest_to (a.edge j) (a.version j) (a.latest e.source.0 j) e.target.0 (a.counts j).edges) Nothing)
+        decide (cond (folds e.kind) (newest_to (a.edge j) (a.version j) (a.latest e.source.0 j) e.target.0 (a.counts j).edges) None)
         (leaves (a.edge j) (a.latest e.target.0 j) (a.counts j).edges)
 
     -- the edge that is kept, into version o

@@ -1,4 +1,5 @@
 -- The checks of a trace: by the number that it returns, and what is known where they pass.
+use Rattle.std.specs.Prelude.{Ok, Err}
 use Prim.Native.Nat.{ℕ, ◌≤◌, ◌<◌}
 use native.Mathlib.Omega.{arith}
 use native.Mathlib.Decide.{dec_le}
@@ -10,8 +11,7 @@ use mathlib.Core.List.{List, [], ◌∷◌, ◌++◌, Memᴰ}
 use lib.ListN.{length}
 use lib.Dec.{leb, ltb}
 use borrow.Author.Tests.{not-false, ltb-false, leb-false, lt-leb}
-use Rattle.refusals.specs.declared.Checked.{Checked}
-use Rattle.refusals.specs.declared.Checked.TheVariants.{Passed, Refused}
+use Rattle.refusals.specs.Refusals.{Checked}
 use Rattle.refusals.specs.declared.Refusal.TheVariants.{Unsound, Undeclared, BufferShort}
 use Rattle.refusals.specs.Refusals.{Check, first_of, number_of}
 use Rattle.refusals.proofs.Checks.{AllFalse, passed_all_false}
@@ -50,13 +50,13 @@ module _ (n : ℕ) (cs : List Check) where
   declared_next (x ∷ xs) h = rw (lt-leb n x (h x (Memᴰ.head refl))) (declared_next xs (λ y m. h y (Memᴰ.tail m)))
 
   -- "One undeclared member gives 5"
-  pub undeclared_refused : (xs : List ℕ) (x : ℕ) → Memᴰ x xs → n ≤ x → first_of (undeclared_checks n xs ++ cs) ≡ Refused Undeclared
+  pub undeclared_refused : (xs : List ℕ) (x : ℕ) → Memᴰ x xs → n ≤ x → first_of (undeclared_checks n xs ++ cs) ≡ Err Undeclared
   unfolding first_of
   undeclared_refused [] x m l = absurd (Memᴰ.not-nil m)
   undeclared_refused (y ∷ ys) x m l = go (Memᴰ.cases_cons m) (leb n y) refl (λ k. undeclared_refused ys x k l)
     where
-      go : (x ≡ y) ⊎ Memᴰ x ys → (b : Bool) → leb n y ≡ b → (Memᴰ x ys → first_of (undeclared_checks n ys ++ cs) ≡ Refused Undeclared)
-          → cond b (Refused Undeclared) (first_of (undeclared_checks n ys ++ cs)) ≡ Refused Undeclared
+      go : (x ≡ y) ⊎ Memᴰ x ys → (b : Bool) → leb n y ≡ b → (Memᴰ x ys → first_of (undeclared_checks n ys ++ cs) ≡ Err Undeclared)
+          → cond b (Err Undeclared) (first_of (undeclared_checks n ys ++ cs)) ≡ Err Undeclared
       go z true q ih = refl
       go (inl e) false q ih = absurd (omega (arith, leb-false n y q))
       go (inr k) false q ih = ih k
@@ -75,39 +75,36 @@ module _ (n : ℕ) (cs : List Check) where
 pub checked_by : (c : Counts) (t : Tables) (xs ys work marks : List ℕ) → first_of (trace_refusals c xs work marks) ≡ first_of (trace_refusals c ys work marks)
     → first_of (trace_checks c t xs work marks) ≡ first_of (trace_checks c t ys work marks)
 unfolding trace_checks first_of
-checked_by c t xs ys work marks = ap (cond (not (is_sound (capacity_of t) (trail_of c t))) (Refused Unsound))
-
-pub checked_passed : (c : Counts) (t : Tables) (xs work marks : List ℕ) (k : Checked) → k ≡ first_of (trace_checks c t xs work marks) → k ≡ Passed
-    → first_of (trace_checks c t xs work marks) ≡ Passed
-checked_passed c t xs work marks k p q = sym p ∙ q
+checked_by c t xs ys work marks = ap (cond (not (is_sound (capacity_of t) (trail_of c t))) (Err Unsound))
 
 module _ (c : Counts) (t : Tables) (xs work marks : List ℕ) where
-  refusals_passed : (ys : List ℕ) → number_of (first_of (trace_refusals c ys work marks)) ≡ 0 → first_of (trace_refusals c ys work marks) ≡ Passed
+  refusals_passed : (ys : List ℕ) → number_of (first_of (trace_refusals c ys work marks)) ≡ 0 → first_of (trace_refusals c ys work marks) ≡ Ok tt
   unfolding first_of
   refusals_passed [] = go (ltb (length work) c.versions) (ltb (length marks) c.entities)
     where
-      go : (v w : Bool) → number_of (cond v (Refused BufferShort) (cond w (Refused BufferShort) Passed)) ≡ 0 → cond v (Refused BufferShort) (cond w (Refused BufferShort) Passed) ≡ Passed
+      go : (v w : Bool) → number_of (cond v (Err BufferShort) (cond w (Err BufferShort) (Ok tt))) ≡ 0
+          → cond v (Err BufferShort) (cond w (Err BufferShort) (Ok (tt {0}))) ≡ Ok tt
       go true w q = absurd (omega arith)
       go false true q = absurd (omega arith)
       go false false q = refl
   refusals_passed (y ∷ ys) = go (leb c.entities y) (refusals_passed ys)
     where
-      go : (b : Bool) → (number_of (first_of (trace_refusals c ys work marks)) ≡ 0 → first_of (trace_refusals c ys work marks) ≡ Passed)
-          → number_of (cond b (Refused Undeclared) (first_of (trace_refusals c ys work marks))) ≡ 0 → cond b (Refused Undeclared) (first_of (trace_refusals c ys work marks)) ≡ Passed
+      go : (b : Bool) → (number_of (first_of (trace_refusals c ys work marks)) ≡ 0 → first_of (trace_refusals c ys work marks) ≡ Ok tt)
+          → number_of (cond b (Err Undeclared) (first_of (trace_refusals c ys work marks))) ≡ 0 → cond b (Err Undeclared) (first_of (trace_refusals c ys work marks)) ≡ Ok tt
       go true ih q = absurd (omega arith)
       go false ih q = ih q
 
   -- a trace that is not refused passed its checks
-  pub number_passed : number_of (first_of (trace_checks c t xs work marks)) ≡ 0 → first_of (trace_checks c t xs work marks) ≡ Passed
+  pub number_passed : number_of (first_of (trace_checks c t xs work marks)) ≡ 0 → first_of (trace_checks c t xs work marks) ≡ Ok tt
   unfolding trace_checks first_of
   number_passed = go (is_sound (capacity_of t) (trail_of c t))
     where
-      go : (s : Bool) → number_of (cond (not s) (Refused Unsound) (first_of (trace_refusals c xs work marks))) ≡ 0
-          → cond (not s) (Refused Unsound) (first_of (trace_refusals c xs work marks)) ≡ Passed
+      go : (s : Bool) → number_of (cond (not s) (Err Unsound) (first_of (trace_refusals c xs work marks))) ≡ 0
+          → cond (not s) (Err Unsound) (first_of (trace_refusals c xs work marks)) ≡ Ok tt
       go false q = absurd (omega arith)
       go true q = refusals_passed xs q
 
-module _ (c : Counts) (t : Tables) (xs work marks : List ℕ) (p : first_of (trace_checks c t xs work marks) ≡ Passed) where
+module _ (c : Counts) (t : Tables) (xs work marks : List ℕ) (p : first_of (trace_checks c t xs work marks) ≡ Ok tt) where
   all_false : AllFalse (trace_checks c t xs work marks)
   all_false = passed_all_false _ p
 
@@ -144,5 +141,5 @@ module _ (c : Counts) (t : Tables) (xs work marks : List ℕ) (p : first_of (tra
   marks-fit = ltb-false _ _ checked.1.1.0
 
 -- of one entity
-pub passed_entity : (c : Counts) (t : Tables) (x : ℕ) (work marks : List ℕ) → first_of (trace_checks c t (x ∷ []) work marks) ≡ Passed → x < c.entities
+pub passed_entity : (c : Counts) (t : Tables) (x : ℕ) (work marks : List ℕ) → first_of (trace_checks c t (x ∷ []) work marks) ≡ Ok tt → x < c.entities
 passed_entity c t x work marks p = passed_entities c t (x ∷ []) work marks p x (Memᴰ.head refl)

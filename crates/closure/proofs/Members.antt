@@ -1,4 +1,5 @@
 -- Forward traces of lists with the same members, of a list with an undeclared member, and of one entity (specs/Members.antt).
+use Rattle.std.specs.Prelude.{Ok, Err}
 use Prim.Native.Nat.{ℕ, ◌≤◌}
 use native.Mathlib.Omega.{arith}
 use mathlib.Core.Path.{◌≡◌, refl, sym, ◌∙◌, ap, subst}
@@ -11,7 +12,6 @@ use lib.ListN.{length}
 use lib.Dec.{leb, ltb}
 use borrow.Author.Tests.{leb-true}
 use Rattle.refusals.specs.declared.Refusal.TheVariants.{Unsound, Undeclared, BufferShort}
-use Rattle.refusals.specs.declared.Checked.TheVariants.{Passed, Refused}
 use Rattle.refusals.specs.Refusals.{Check, first_of, number_of}
 use Rattle.rows.specs.declared.Counts.{Counts}
 use Rattle.rules.specs.Trail.{Tables, capacity_of, Trail, trail_of}
@@ -76,7 +76,7 @@ module _ (c : Counts) (t : Tables) (work marks : List ℕ) where
   refused_5 u = go (is_sound (capacity_of t) (trail_of c t)) refl (leb c.entities u) refl (ltb (length work) c.versions) (ltb (length marks) c.entities)
     where
       go : (s : Bool) → is_sound (capacity_of t) (trail_of c t) ≡ s → (b : Bool) → leb c.entities u ≡ b → (v w : Bool)
-          → number_of (cond (not s) (Refused Unsound) (cond b (Refused Undeclared) (cond v (Refused BufferShort) (cond w (Refused BufferShort) Passed)))) ≡ 5
+          → number_of (cond (not s) (Err Unsound) (cond b (Err Undeclared) (cond v (Err BufferShort) (cond w (Err BufferShort) (Ok tt))))) ≡ 5
           → (is_sound (capacity_of t) (trail_of c t) ≡ true) × (c.entities ≤ u)
       go false e b q v w z = absurd (omega arith)
       go true e true q v w z = (e, leb-true _ _ q)

@@ -1,4 +1,5 @@
 -- Two sound trails that differ in sorts alone: start versions, marks and intakes are the same, and so are the calls.
+use Rattle.std.specs.Prelude.{Ok, Err}
 use Prim.Native.Nat.{ℕ, zero, suc, ◌<◌}
 use native.Mathlib.Omega.{arith}
 use mathlib.Core.Path.{◌≡◌, refl, sym, ◌∙◌, ap}
@@ -7,8 +8,7 @@ use mathlib.Core.List.Memᴰ
 use mathlib.Core.List.{List, [], ◌∷◌, ◌++◌, map}
 use lib.Dec.{leb}
 use borrow.Author.Tests.{leb-false}
-use Rattle.refusals.specs.declared.Checked.{Checked}
-use Rattle.refusals.specs.declared.Checked.TheVariants.{Passed, Refused}
+use Rattle.refusals.specs.Refusals.{Checked}
 use Rattle.refusals.specs.Refusals.{first_of}
 use Rattle.rows.specs.declared.Counts.{Counts}
 use Rattle.rules.specs.Trail.{Tables, capacity_of, Trail, trail_of, latest_of}
@@ -122,13 +122,13 @@ module _ (c c' : Counts) (t t' : Tables) (p : is_sound (capacity_of t) (trail_of
   backward-same x time work marks = go (trace_checked c t (x ∷ []) work marks) refl
     where
       go : (k : Checked) → trace_checked c t (x ∷ []) work marks ≡ k → backward_of c t x time work marks ≡ backward_of c' t' x time work marks
-      go Passed q =
+      go (Ok tt) q =
           let h = passed_entity c t x work marks q in
           backward_of_passed c t x time work marks q
           ∙ (λ j. backward_trace (record { refusal = 0; count = ones (backward_entities-same f s x time h j) })
           (overlaid (backward_work-same f s x time h j) work) (overlaid (backward_entities-same f s x time h j) marks))
           ∙ sym (backward_of_passed c' t' x time work marks (sym (checked-same (x ∷ []) work marks) ∙ q))
-      go (Refused r) q =
+      go (Err r) q =
           backward_of_refused c t x time work marks r q
           ∙ sym (backward_of_refused c' t' x time work marks r (sym (checked-same (x ∷ []) work marks) ∙ q))
 
@@ -136,13 +136,13 @@ module _ (c c' : Counts) (t t' : Tables) (p : is_sound (capacity_of t) (trail_of
   forward-same us time work marks = go (trace_checked c t us work marks) refl
     where
       go : (k : Checked) → trace_checked c t us work marks ≡ k → forward_of c t us time work marks ≡ forward_of c' t' us time work marks
-      go Passed q =
+      go (Ok tt) q =
           let h = passed_entities c t us work marks q in
           forward_of_passed c t us time work marks q
           ∙ (λ j. forward_trace (record { refusal = 0; count = ones (forward_entities-same f s us time h j); intake = forward_intake-same f s us time h j })
           (overlaid (forward_work-same f s us time h j) work) (overlaid (forward_entities-same f s us time h j) marks))
           ∙ sym (forward_of_passed c' t' us time work marks (sym (checked-same us work marks) ∙ q))
-      go (Refused r) q =
+      go (Err r) q =
           forward_of_refused c t us time work marks r q ∙ sym (forward_of_refused c' t' us time work marks r (sym (checked-same us work marks) ∙ q))
 
 pub no_sort_read : NoSortRead

@@ -1,10 +1,10 @@
 -- A trace call where its checks pass, and where one of them refuses.
+use Rattle.std.specs.Prelude.{Ok, Err}
 use Prim.Native.Nat.{ℕ}
 use mathlib.Core.Path.{◌≡◌}
 use mathlib.Core.List.{List, [], ◌∷◌}
 use Rattle.refusals.specs.declared.Refusal.{Refusal}
-use Rattle.refusals.specs.declared.Checked.{Checked}
-use Rattle.refusals.specs.declared.Checked.TheVariants.{Passed, Refused}
+use Rattle.refusals.specs.Refusals.{Checked}
 use Rattle.refusals.specs.Refusals.{first_of, refusal_no}
 use Rattle.rows.specs.declared.Counts.{Counts}
 use Rattle.rules.specs.Trail.{Tables, Trail, trail_of}
@@ -27,11 +27,11 @@ module _ (c : Counts) (t : Tables) where
       marks = overlaid (backward_entities T x time) marks;
     }
 
-    pub backward_of_passed : trace_checked c t (x ∷ []) work marks ≡ Passed → backward_of c t x time work marks ≡ backward_answered
+    pub backward_of_passed : trace_checked c t (x ∷ []) work marks ≡ Ok tt → backward_of c t x time work marks ≡ backward_answered
     unfolding backward_of
     backward_of_passed p = rw p
 
-    pub backward_of_refused : (r : Refusal) → trace_checked c t (x ∷ []) work marks ≡ Refused r → backward_of c t x time work marks ≡ record { answer = record { refusal = refusal_no r; count = 0 }; work = work; marks = marks }
+    pub backward_of_refused : (r : Refusal) → trace_checked c t (x ∷ []) work marks ≡ Err r → backward_of c t x time work marks ≡ record { answer = record { refusal = refusal_no r; count = 0 }; work = work; marks = marks }
     unfolding backward_of
     backward_of_refused r p = rw p
 
@@ -43,10 +43,10 @@ module _ (c : Counts) (t : Tables) where
       marks = overlaid (forward_entities T us time) marks;
     }
 
-    pub forward_of_passed : trace_checked c t us work marks ≡ Passed → forward_of c t us time work marks ≡ forward_answered
+    pub forward_of_passed : trace_checked c t us work marks ≡ Ok tt → forward_of c t us time work marks ≡ forward_answered
     unfolding forward_of
     forward_of_passed p = rw p
 
-    pub forward_of_refused : (r : Refusal) → trace_checked c t us work marks ≡ Refused r → forward_of c t us time work marks ≡ record { answer = record { refusal = refusal_no r; count = 0; intake = 0 }; work = work; marks = marks }
+    pub forward_of_refused : (r : Refusal) → trace_checked c t us work marks ≡ Err r → forward_of c t us time work marks ≡ record { answer = record { refusal = refusal_no r; count = 0; intake = 0 }; work = work; marks = marks }
     unfolding forward_of
     forward_of_refused r p = rw p

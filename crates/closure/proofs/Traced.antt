@@ -1,10 +1,10 @@
 -- A trace whose checks pass is what document 01's relations say.
+use Rattle.std.specs.Prelude.{Ok}
 use Prim.Native.Nat.{ℕ, ◌≤◌}
 use mathlib.Core.Path.{◌≡◌}
 use mathlib.Core.Logic.Iff
 use mathlib.Core.Logic.{◌↔◌}
 use mathlib.Core.List.{List, [], ◌∷◌, Memᴰ}
-use Rattle.refusals.specs.declared.Checked.TheVariants.{Passed}
 use Rattle.rows.specs.declared.Counts.{Counts}
 use Rattle.rules.specs.Trail.{Tables, Trail, trail_of, none}
 use Rattle.rules.specs.Start.{StartVersion, start_of}
@@ -37,7 +37,7 @@ module _ (c : Counts) (t : Tables) where
   abbrev T : Trail
   T = trail_of c t
 
-  module _ (x time : ℕ) (work marks : List ℕ) (p : trace_checked c t (x ∷ []) work marks ≡ Passed) where
+  module _ (x time : ℕ) (work marks : List ℕ) (p : trace_checked c t (x ∷ []) work marks ≡ Ok tt) where
     pub backward_traced : BackwardTraced T x time work marks (backward_answered c t x time work marks)
     unfolding backward_entities backward_work
     backward_traced =
@@ -51,7 +51,7 @@ module _ (c : Counts) (t : Tables) where
               (backward_work_iff T f x time h) (λ k d. backward_marks_in T s time f (start_in T f x time h) d) work marks (work_fits c t xs work marks p) (marks-fit c t xs work marks p),
         )
 
-  module _ (us : List ℕ) (time : ℕ) (work marks : List ℕ) (p : trace_checked c t us work marks ≡ Passed) where
+  module _ (us : List ℕ) (time : ℕ) (work marks : List ℕ) (p : trace_checked c t us work marks ≡ Ok tt) where
     f : RowFacts T
     f = passed_rows c t us work marks p
 

@@ -1,4 +1,5 @@
 -- The forward trace of a list is the union of those of its members, each traced alone (specs/Members.antt).
+use Rattle.std.specs.Prelude.{Ok}
 use Prim.Native.Nat.{ℕ, ◌<◌}
 use mathlib.Core.Path.{◌≡◌, refl, sym, ◌∙◌, ap}
 use mathlib.Core.Logic.Iff
@@ -6,7 +7,6 @@ use mathlib.Core.Logic.{◌↔◌}
 use mathlib.Core.List.Memᴰ
 use mathlib.Core.List.{List, [], ◌∷◌, Memᴰ}
 use lib.ListN.{get_or}
-use Rattle.refusals.specs.declared.Checked.TheVariants.{Passed}
 use Rattle.refusals.specs.Refusals.{number_of}
 use Rattle.rows.specs.declared.Counts.{Counts}
 use Rattle.rules.specs.Trail.{Tables, Trail, trail_of}
@@ -50,14 +50,14 @@ module _ (c : Counts) (t : Tables) (us : List ℕ) (time : ℕ) (work marks : Li
   is : (vs : List ℕ) → IsForwardTrace c t vs time work marks (of vs)
   is vs = (traces_by_relations.forward c t vs time work marks _).0 refl
 
-  passed : trace_checked c t us work marks ≡ Passed
+  passed : trace_checked c t us work marks ≡ Ok tt
   passed = number_passed c t us work marks (sym (is us).refusal ∙ z)
 
   h : AllBelow c.entities us
   h = passed_entities c t us work marks passed
 
   module _ (u : ℕ) (m : Memᴰ u us) where
-    passed_alone : trace_checked c t (u ∷ []) work marks ≡ Passed
+    passed_alone : trace_checked c t (u ∷ []) work marks ≡ Ok tt
     passed_alone = checked_alike c t (u ∷ []) us work marks (λ v k. rw (Memᴰ.eq_of_singleton k) (h u m)) h ∙ passed
 
     number_alone : (of (u ∷ [])).answer.refusal ≡ 0

@@ -1,4 +1,5 @@
 pub mod Index
+pub mod Way
 pub mod Ways
 pub mod Hints
 pub mod Arrays

@@ -1,9 +1,6 @@
 -- The least of a number and of what a function gives for a set: with a number less in the set.
-use Prim.Native.Nat.{ℕ, min, ◌≤◌}
-use native.Mathlib.Omega.{arith}
+use Rattle.std.proofs.Common.{ℕ, min, ◌≤◌, ◌≡◌, refl, ◌∙◌, subst, ◌⊎◌, inl, inr, arith}
 use native.Mathlib.Decide.{dec_le}
-use mathlib.Core.Path.{◌≡◌, refl, ◌∙◌, subst}
-use mathlib.Core.Logic.{◌⊎◌, inl, inr}
 use Rattle.intake.specs.Intake.{Least}
 
 -- of an empty set

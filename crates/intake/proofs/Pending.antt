@@ -1,15 +1,11 @@
 -- How many marks there are: one less where one is taken away, at most one more where one is added.
-use Prim.Native.Nat.{ℕ, zero, suc, ◌≤◌}
-use native.Mathlib.Omega.{arith}
-use mathlib.Core.Path.{◌≡◌, refl}
-use mathlib.Core.List.{List, [], ◌∷◌, map}
-use lib.ListN.{length, set, replicate}
+use Rattle.std.proofs.Common.{ℕ, zero, suc, ◌≤◌, ◌≡◌, refl, List, [], ◌∷◌, map, length, set, replicate, arith}
 use borrow.Author.Tests.{eq-eqb}
 use Rattle.rules.specs.Trail.{Trail}
 use Rattle.rules.specs.Start.{start_of}
 use Rattle.rules.specs.Marks.{ones, seeded}
 use Rattle.closure.specs.Arcs.{Marked}
-use Rattle.starts.specs.EntityList.{start_marks}
+use Rattle.rules.specs.Forward.{starts_of}
 
 pub ones_unmark : (m : List ℕ) (i : ℕ) → Marked m i → suc (ones (set m i 0)) ≡ ones m
 unfolding ones
@@ -37,6 +33,5 @@ ones-seeded g n [] = omega (arith, ones_zeros n)
 ones-seeded g n (u ∷ us) = omega (arith, ones-seeded g n us, ones_mark (seeded n (map g us)) (g u))
 
 -- the start versions are at most as many as the members
-pub ones_few : (T : Trail) (us : List ℕ) (t n : ℕ) (m : List ℕ) → m ≡ start_marks T us t n → ones m ≤ length us
-unfolding start_marks
+pub ones_few : (T : Trail) (us : List ℕ) (t n : ℕ) (m : List ℕ) → m ≡ seeded n (starts_of T us t) → ones m ≤ length us
 ones_few T us t n m q = rw q (ones-seeded (λ u. start_of T u t) n us)

@@ -1,11 +1,5 @@
 -- The intake of a version, and the earliest one of the marked versions: each edge from the newest on is looked at once for all of them.
-use Prim.Native.Nat.{ℕ, zero, suc, min, ◌≤◌}
-use mathlib.Core.Path.{◌≡◌}
-use mathlib.Core.Logic.{◌⊎◌}
-use mathlib.Core.Bool.{Bool, ◌&&◌, cond}
-use mathlib.Core.List.{List}
-use lib.ListN.{get_or, set}
-use lib.Dec.{eqb, leb}
+use Rattle.std.specs.Prelude.{ℕ, zero, suc, min, ◌≤◌, ◌≡◌, ◌⊎◌, Bool, ◌&&◌, cond, List, get_or, set, eqb, leb}
 use Rattle.rows.specs.declared.VersionRow.{VersionRow}
 use Rattle.rows.specs.declared.EdgeRow.{EdgeRow}
 use Rattle.closure.specs.Arcs.{Marked}

@@ -1,103 +1,78 @@
 // The intake of a forward trace: the earliest of the members'.
 #![tactic(auto)]
 
-ghost use Prim.Native.Nat.{min, ◌≤◌, ◌<◌};
-ghost use mathlib.Core.Path.{◌≡◌};
-ghost use mathlib.Core.Bool.{cond};
-ghost use lib.ListN.{length, get_or};
-ghost use lib.Dec.{eqb};
+ghost use Rattle.std.specs.Prelude.{suc, ◌≤◌, ◌<◌, ◌≡◌, length};
+ghost use Rattle.std.specs.Option.{MatchOption};
 ghost use Rattle.rows.specs.Rows.{version_at, edge_at};
 ghost use Rattle.rows.specs.Capacity.{edge_capacity};
-ghost use Rattle.rules.specs.Trail.{tables, trail_of};
 ghost use Rattle.rules.specs.Marks.{ones};
 ghost use Rattle.rules.specs.Forward.{forward_intake};
+ghost use Rattle.marks.specs.Fitted.{trail_in};
 ghost use Rattle.intake.specs.Traceable.{Traceable};
 ghost use Rattle.intake.specs.Intake.{enters_by, last_intake, enters_marked, up_to_entering, Taken, LeastStart, LeastIntake};
 
-use marks::{marked, unmark};
-use rows::{Counts, EdgeNo, EdgeRow, EntityNo, VersionNo, edge_in, version_start};
+use marks::{Fitted, marked, unmark};
+use rows::{EdgeNo, EdgeRow, EntityNo, Lent, VersionNo};
 use starts::{mark_starts, start_version};
 
-// Whether edge e enters version s with time ≤ t.
-fn enters(s: VersionNo, t: u32, e: EdgeRow) -> bool
-    ensures { result ≡ enters_by s.0 t e }
+// Whether edge e enters version s by a time.
+#[tactic(auto, unfolding(crate::specs::Intake::enters_by))]
+fn enters(s: VersionNo, time: u32, e: EdgeRow) -> bool
+    ensures { result ≡ enters_by s.0 time e }
 {
-    if e.to.0 == s.0 {
-        return e.time <= t;
-    }
-    false
+    e.to == s && e.time <= time
 }
 
-// The intake of version s at time t: the time of the last of d edges that enters it by then, else its start.
-fn intake_of(versions: &[u32], edges: &[u32], d: u32, s: VersionNo, t: u32) -> u32
-    requires { d ≤ edge_capacity edges.now }
-    ensures { result ≡ last_intake (version_at versions.now) (edge_at edges.now) s.0 t d }
+// The intake of version s at a time: the time of the last edge that enters it by then, else its start.
+#[tactic(auto, using(crate::proofs::IntakeLoop::intake_last), unfolding(crate::specs::Intake::last_intake))]
+fn intake_of(t: &Fitted, s: VersionNo, time: u32) -> u32
+    ensures { let T = trail_in t.now in result ≡ last_intake T.version T.edge s.0 time T.counts.edges }
 {
-    let mut k = d;
-    while 0 < k {
-        k -= 1;
-        let e = edge_in(edges, EdgeNo(k));
-        if enters(s, t, e) {
+    for k in (0..t.trail.counts.edges).rev() {
+        let e = rows::edge_in(t.trail.edges, EdgeNo(k));
+        if enters(s, time, e) {
             return e.time;
         }
     }
-    version_start(versions, s)
+    rows::version_at(t.trail.versions, s).start
 }
 
-fn earlier(a: u32, b: u32) -> u32
-    ensures { result ≡ min a b }
-{
-    if a < b { a } else { b }
-}
-
-// The earlier of b and the start of version v where that is pending, else b.
-fn earlier_start(versions: &[u32], pending: &[u8], v: u32, b: u32) -> u32
-    ensures { result ≡ cond (eqb (get_or pending.now v 0) 1) (min b (version_at versions.now v).start) b }
-{
-    if marked(pending, v) {
-        return earlier(b, version_start(versions, VersionNo(v)));
-    }
-    b
-}
-
-// The earliest of b and the starts of the pending ones of n versions.
-fn earliest_start(versions: &[u32], n: u32, pending: &[u8], b: u32) -> u32
-    requires { n ≡ length pending.now }
-    ensures { LeastStart (version_at versions.now) pending.now b result }
+// The earliest of b and the starts of the pending versions.
+fn earliest_start(t: &Lent, pending: &[u8], b: u32) -> u32
+    requires { t.now.counts.versions ≡ length pending.now }
+    ensures { LeastStart (version_at t.now.versions.now) pending.now b result }
 {
     let mut r = b;
-    let mut v: u32 = 0;
-    while v < n {
-        r = earlier_start(versions, pending, v, r);
-        v += 1;
+    for v in 0..t.counts.versions {
+        if marked(pending, v) {
+            r = r.min(rows::version_at(t.versions, VersionNo(v)).start);
+        }
     }
     r
 }
 
-// Whether edge e enters a pending version with time ≤ t.
-fn enters_pending(pending: &[u8], t: u32, e: EdgeRow) -> bool
-    ensures { result ≡ enters_marked pending.now t e }
+// Whether edge e enters a pending version by a time.
+#[tactic(auto, unfolding(crate::specs::Intake::enters_marked))]
+fn enters_pending(pending: &[u8], time: u32, e: EdgeRow) -> bool
+    ensures { result ≡ enters_marked pending.now time e }
 {
-    if marked(pending, e.to.0) {
-        return e.time <= t;
-    }
-    false
+    marked(pending, e.to.0) && e.time <= time
 }
 
-// How many edges there are up to the last of d that does, 0 if none does.
-fn up_to_entering(edges: &[u32], d: u32, pending: &[u8], t: u32) -> u32
+// The last of d edges that does: a search goes on below the edge that the one before found.
+#[tactic(auto, using(crate::proofs::EnteringLoop::entering_last), unfolding(crate::specs::Intake::up_to_entering))]
+fn last_entering(edges: &[u32], d: u32, pending: &[u8], time: u32) -> Option<EdgeNo>
     requires { d ≤ edge_capacity edges.now }
-    ensures { result ≡ up_to_entering (edge_at edges.now) pending.now t d }
+    ensures { MatchOption result (up_to_entering (edge_at edges.now) pending.now time d ≡ 0)
+        (λ k. up_to_entering (edge_at edges.now) pending.now time d ≡ suc k.0) }
 {
-    let mut k = d;
-    while 0 < k {
-        let e = edge_in(edges, EdgeNo(k - 1));
-        if enters_pending(pending, t, e) {
-            return k;
+    for k in (0..d).rev() {
+        let e = rows::edge_in(edges, EdgeNo(k));
+        if enters_pending(pending, time, e) {
+            return Some(EdgeNo(k));
         }
-        k -= 1;
     }
-    0
+    None
 }
 
 // The version that edge k enters is pending no longer; the earlier of b and the edge's time.
@@ -105,72 +80,42 @@ fn take_intake(edges: &[u32], k: EdgeNo, pending: &mut [u8], b: u32) -> u32
     requires { k.0 < edge_capacity edges.now }
     ensures { Taken (edge_at edges.now k.0) pending.old b pending.new result }
 {
-    let e = edge_in(edges, k);
+    let e = rows::edge_in(edges, k);
     unmark(pending, e.to.0);
-    earlier(b, e.time)
+    b.min(e.time)
 }
 
-// The earliest of b and the intakes at time t of the pending ones of n versions, of which there are at most `most`: the search
+// The earliest of the last time and the intakes at a time of the pending versions, of which there are at most `most`: the search
 // ends where so many are found.
-fn earliest_intake(
-    versions: &[u32],
-    n: u32,
-    edges: &[u32],
-    d: u32,
-    pending: &mut [u8],
-    t: u32,
-    most: usize,
-    b: u32,
-) -> u32
-    requires { (d ≤ edge_capacity edges.now) × (n ≡ length pending.old) × (ones pending.old ≤ most) }
-    ensures { LeastIntake (version_at versions.now) (edge_at edges.now) t d pending.old b result }
+fn earliest_intake(t: &Fitted, pending: &mut [u8], time: u32, most: usize) -> u32
+    requires { (t.now.trail.counts.versions ≡ length pending.old) × (ones pending.old ≤ most) }
+    ensures { let T = trail_in t.now in LeastIntake T.version T.edge time T.counts.edges pending.old T.counts.last result }
 {
-    let mut k = d;
-    let mut left = most;
-    let mut r = b;
-    while 0 < left {
-        k = up_to_entering(edges, k, pending, t);
-        if k == 0 {
-            return earliest_start(versions, n, pending, r);
-        }
-        k -= 1;
-        r = take_intake(edges, EdgeNo(k), pending, r);
-        left -= 1;
+    let mut k = t.trail.counts.edges;
+    let mut r = t.trail.counts.last;
+    for _ in 0..most {
+        let Some(last) = last_entering(t.trail.edges, k, pending, time) else {
+            return earliest_start(&t.trail, pending, r);
+        };
+        k = last.0;
+        r = take_intake(t.trail.edges, last, pending, r);
     }
     r
 }
 
 // The earliest intake of the members, 0 if there are none. The start version of one member alone is compared by number, which is
 // faster than by marks. Of sound tables no intake is after the last time.
-pub fn intake(
-    c: Counts,
-    entities: &[u32],
-    versions: &[u32],
-    edges: &[u32],
-    members: &[u32],
-    t: u32,
-    work: &mut [u8],
-    seen: &mut [u8],
-) -> u32
-    requires { Traceable c (tables entities.now versions.now edges.now) members.now × (c.versions ≡ length work.old) }
-    ensures { result ≡ forward_intake (trail_of c (tables entities.now versions.now edges.now)) members.now t }
+#[tactic(auto, using(crate::proofs::Found::none_found, crate::proofs::Pending::ones_few))]
+pub fn intake(t: &Fitted, members: &[u32], time: u32, work: &mut [u8], seen: &mut [u8]) -> u32
+    requires { Traceable (trail_in t.now) members.now × (t.now.trail.counts.versions ≡ length work.old) }
+    ensures { result ≡ forward_intake (trail_in t.now) members.now time }
 {
-    if members.len() == 0 {
-        return 0;
+    match members {
+        [] => 0,
+        [u] => intake_of(t, start_version(&t.trail, EntityNo(*u), time), time),
+        _ => {
+            mark_starts(&t.trail, members, time, work, seen);
+            earliest_intake(t, work, time, members.len())
+        }
     }
-    if members.len() == 1 {
-        let s = start_version(c, entities, versions, EntityNo(members[0]), t);
-        return intake_of(versions, edges, c.edges, s, t);
-    }
-    mark_starts(c, entities, versions, members, t, work, seen);
-    earliest_intake(
-        versions,
-        c.versions,
-        edges,
-        c.edges,
-        work,
-        t,
-        members.len(),
-        c.last,
-    )
 }

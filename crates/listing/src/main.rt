@@ -19,9 +19,7 @@ fn print_counts(rt: &impl Print, c: Counts) -> io::Result<()> {
 
 fn print_edge(rt: &impl Print, edges: &[u32], k: EdgeNo) -> io::Result<()> {
     let e = rows::edge_at(edges, k);
-    let from = e.from;
-    let to = e.to;
-    println!(rt; "edge {} {} {} {}", from.0, to.0, e.kind, e.time)
+    println!(rt; "edge {} {} {} {}", e.from.0, e.to.0, e.kind, e.time)
 }
 
 fn print_edges(rt: &impl Print, edges: &[u32], n: u32) -> io::Result<()> {
@@ -31,18 +29,13 @@ fn print_edges(rt: &impl Print, edges: &[u32], n: u32) -> io::Result<()> {
     Ok(())
 }
 
-// The record that a refusal names, from 1; 0 before any record: for 1, 2 and 16.
+// The record that a refusal names, from 1; 0 before any record: for 1, 2 and 16. The answer has C's number of the refusal, and a
+// file here has fewer than 3,000 records.
 fn record_number(a: BatchAnswer) -> u32 {
-    let n = a.refusal;
-    match n {
+    match a.refusal {
         1 | 2 | 16 => 0,
-        _ => next(a.taken),
+        _ => a.taken.wrapping_add(1),
     }
-}
-
-// The number after x, which is far from the greatest: a file here has fewer than 3,000 records.
-fn next(x: u32) -> u32 {
-    x.wrapping_add(1)
 }
 
 fn print_refusal(rt: &impl Print, a: BatchAnswer) -> io::Result<()> {
@@ -57,22 +50,19 @@ fn list(rt: &impl Print, file: &[u8]) -> io::Result<()> {
     let mut entities = [0u32; 5460];
     let mut versions = [0u32; 10920];
     let mut edges = [0u32; 16380];
-    let fresh = Counts {
-        entities: 0,
-        versions: 0,
-        edges: 0,
-        accepted: 0,
-        last: 0,
-    };
-    let b = growth::batch(fresh, &mut entities, &mut versions, &mut edges, file);
-    let c = b.counts;
-    print_counts(rt, c)?;
-    print_edges(rt, &edges, c.edges)?;
-    let a = b.answer;
-    print_refusal(rt, a)
+    let b = growth::batch(
+        Counts::default(),
+        &mut entities,
+        &mut versions,
+        &mut edges,
+        file,
+    );
+    print_counts(rt, b.counts)?;
+    print_edges(rt, &edges, b.counts.edges)?;
+    print_refusal(rt, b.answer)
 }
 
-// Reads until the buffer is full or the input ends; how many bytes were read.
+// Reads until the buffer is full or the input ends; how many bytes were read. Each read moves the place on by as many as it gave.
 fn read_full<R: Read>(input: &mut R, buf: &mut [u8]) -> io::Result<usize>
     ensures within { IfOk result (λ n. n ≤ length buf.old) }
     ensures read { IfOk result (λ n. Consumes (R.remaining input.old) (R.remaining input.new) (take n buf.new)) }

@@ -1,10 +1,5 @@
 -- One mark, made where a test holds.
-use Prim.Native.Nat.{ℕ}
-use mathlib.Core.Path.{◌≡◌}
-use mathlib.Core.Bool.{Bool, ◌&&◌, not, cond}
-use mathlib.Core.List.{List}
-use lib.ListN.{get_or, set}
-use lib.Dec.{eqb}
+use Rattle.std.specs.Prelude.{ℕ, ◌≡◌, Bool, ◌&&◌, not, cond, List, get_or, set, eqb}
 
 -- from m, place i is marked where b holds, which makes m', and c says whether that is a new mark
 pub record MarkedIf (b : Bool) (i : ℕ) (m : List ℕ) (c : Bool) (m' : List ℕ) : Type 0 where

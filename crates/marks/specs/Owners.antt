@@ -1,12 +1,7 @@
 -- The mark buffer, version by version: a marked version marks its entity.
-use Prim.Native.Nat.{ℕ, zero, suc}
-use mathlib.Core.Path.{◌≡◌}
-use mathlib.Core.Bool.{cond}
-use mathlib.Core.List.{List}
-use lib.ListN.{get_or, set}
-use lib.Dec.{eqb}
-use Rattle.rows.specs.declared.Counts.{Counts}
+use Rattle.std.specs.Prelude.{ℕ, zero, suc, ◌≡◌, cond, List, get_or, set, eqb}
 use Rattle.rows.specs.declared.VersionRow.{VersionRow}
+use Rattle.rules.specs.Trail.{Trail}
 use Rattle.rules.specs.Marks.{marks_below, ones, overlaid}
 
 -- of version k
@@ -19,6 +14,6 @@ owners_marked W work zero m = m
 owners_marked W work (suc k) m = owner_marked W work k (owners_marked W work k m)
 
 -- from m, the bytes of the entities in use become their marks by the marks of the versions, which makes m', and r counts them
-pub record EntitiesMarked (c : Counts) (W : ℕ → VersionRow) (work m : List ℕ) (r : ℕ) (m' : List ℕ) : Type 0 where
-  pub count : r ≡ ones (marks_below W work c.versions c.entities)
-  pub marks : m' ≡ overlaid (marks_below W work c.versions c.entities) m
+pub record EntitiesMarked (T : Trail) (work m : List ℕ) (r : ℕ) (m' : List ℕ) : Type 0 where
+  pub count : r ≡ ones (marks_below T.version work T.counts.versions T.counts.entities)
+  pub marks : m' ≡ overlaid (marks_below T.version work T.counts.versions T.counts.entities) m

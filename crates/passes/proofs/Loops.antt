@@ -64,22 +64,22 @@ adds_none : (arcs : List Arc) (m : List ℕ) (c : Bool) (m' : List ℕ) → Foll
 unfolding passes
 adds_none arcs m c m' f h = f.marks ∙ passes_still arcs m (sym f.changed ∙ h) arcs (λ a k. k) 1
 
--- passes, of which j are left
-module _ (arcs : List Arc) (n : ℕ) (m₀ : List ℕ) (j : ℕ) (m : List ℕ) (i : passes j arcs m ≡ passes n arcs m₀) where
+-- passes, of which k of n are made
+module _ (arcs : List Arc) (n k : ℕ) (m₀ m : List ℕ) (i : passes (n - k) arcs m ≡ passes n arcs m₀) where
   module _ (c : Bool) (m' : List ℕ) (f : Followed arcs m c m') where
-    pub passes_next : 0 < j → passes (j - 1) arcs m' ≡ passes n arcs m₀
+    pub passes_next : k < n → passes (n - (k + 1)) arcs m' ≡ passes n arcs m₀
     unfolding passes
-    passes_next l = go (j - 1) (below j l)
+    passes_next l = go (n - (k + 1)) (omega arith)
       where
-        go : (k : ℕ) → j ≡ suc k → passes k arcs m' ≡ passes n arcs m₀
-        go k z = ap (passes k arcs) f.marks ∙ subst (λ x. passes x arcs m ≡ passes n arcs m₀) z i
+        go : (j : ℕ) → n - k ≡ suc j → passes j arcs m' ≡ passes n arcs m₀
+        go j z = ap (passes j arcs) f.marks ∙ subst (λ x. passes x arcs m ≡ passes n arcs m₀) z i
 
     pub passes_stop : c ≡ false → m' ≡ passes n arcs m₀
-    passes_stop h = let z = sym f.changed ∙ h in adds_none arcs m c m' f h ∙ sym (passes_still arcs m z arcs (λ a k. k) j) ∙ i
+    passes_stop h = let z = sym f.changed ∙ h in adds_none arcs m c m' f h ∙ sym (passes_still arcs m z arcs (λ a k. k) (n - k)) ∙ i
 
-  pub passes_end : j ≤ 0 → m ≡ passes n arcs m₀
+  pub passes_end : n ≤ k → m ≡ passes n arcs m₀
   unfolding passes
-  passes_end l = let z : j ≡ 0 = omega arith in subst (λ x. passes x arcs m ≡ passes n arcs m₀) z i
+  passes_end l = let z : n - k ≡ 0 = omega arith in subst (λ x. passes x arcs m ≡ passes n arcs m₀) z i
 
 -- a first pass from the marks m, then later ones
 module _ (n : ℕ) (xs ys : List Arc) (m m₁ : List ℕ) (c : Bool) (f : Followed xs m c m₁) where

@@ -8,16 +8,15 @@ use lib.ListN.{length, get_or, set, get_or-eq_default}
 use lib.Seq.{set-set}
 use lib.Dec.{eqb}
 use borrow.Author.Tests.{eqb-true}
-use Rattle.rows.specs.declared.VersionNo.{VersionNo}
 use Rattle.rows.specs.declared.VersionRow.{VersionRow}
 use Rattle.rows.specs.declared.EdgeRow.{EdgeRow}
-use Rattle.rules.specs.Trail.{none}
+use Rattle.rules.specs.Trail.{Trail, none}
 use Rattle.rules.specs.Marks.{Arc, arc, follow, pass}
 use Rattle.marks.specs.MarkedIf.{MarkedIf}
 use Rattle.passes.specs.Followed.{changes, Followed, up}
 use Rattle.passes.specs.TraceArcs.{when, step_on, target_on, edge_on, first_on, later_on}
 use Rattle.passes.proofs.Members.{up_iff, with_more}
-use Rattle.passes.proofs.Followed.{arc_followed, arc_marked, arc_idle, followed_none, followed_append, when_still}
+use Rattle.passes.proofs.Followed.{arc_followed, arc_idle, followed_none, followed_append}
 
 -- a version that was marked just now is not changed by its step
 step_again : (m : List ℕ) (p v : ℕ) → pass (step_on p v) (set m v 1) ≡ set m v 1
@@ -45,11 +44,6 @@ module _ (m : List ℕ) (l : length m ≤ none) where
           let g = arc_idle m p v false (sym (ap (λ x. eqb x 1) z)) refl in
           record { changed = f.changed ∙ sym g.changed ∙ (followed_none m).changed; marks = f.marks ∙ sym g.marks ∙ (followed_none m).marks }
 
-  -- by what was read of the version
-  pub step_on_of : (v : ℕ) (c : Bool) (m' : List ℕ) (row row' : VersionRow) → row ≡ row' → Followed (arc row.previous.0 v ∷ []) m c m'
-      → Followed (step_on row'.previous.0 v) m c m'
-  step_on_of v c m' row row' q f = subst (λ (r : VersionRow). Followed (step_on r.previous.0 v) m c m') q (step_on_lem row.previous.0 v c m' f)
-
   -- two arcs into a place that is not marked are one arc from either
   two_arcs : (f p t : ℕ) (a b c : Bool) (m' : List ℕ) → eqb (get_or m t 0) 1 ≡ false → a ≡ eqb (get_or m f 0) 1 → b ≡ eqb (get_or m p 0) 1 → MarkedIf (a || b) t m c m'
       → Followed ((arc f t ∷ []) ++ step_on p t) m c m'
@@ -62,28 +56,15 @@ module _ (m : List ℕ) (l : length m ≤ none) where
       (w.changed ∙ ap not u)
 
 -- by what was read of the edge
-pub target_of : (m m' : List ℕ) (c : Bool) (e row : EdgeRow) → e ≡ row → Followed (arc e.from.0 e.to.0 ∷ []) m c m' → Followed (target_on row) m c m'
-unfolding target_on
-target_of m m' c e row q f = subst (λ (r : EdgeRow). Followed (arc r.from.0 r.to.0 ∷ []) m c m') q f
-
 module _ (W : ℕ → VersionRow) (e row : EdgeRow) (q : e ≡ row) (m : List ℕ) (r : Bool) (z : r ≡ eqb (get_or m e.to.0 0) 1) where
-  pub edge_on_done : r ≡ true → Followed (edge_on W row) m false m
-  unfolding edge_on target_on step_on
-  edge_on_done h =
-      subst (λ x. Followed (edge_on W x) m false m) q
-      (followed_append _ _ m m m false false false
-      (arc_marked m e.from.0 e.to.0 r z h)
-      (when_still (not (eqb (W e.to.0).previous.0 none)) _ m (arc_marked m (W e.to.0).previous.0 e.to.0 r z h))
-      refl)
-
-  pub edge_on_lem : length m ≤ none → (p : VersionNo) (a b c : Bool) (m' : List ℕ) → p ≡ (W e.to.0).previous → a ≡ eqb (get_or m e.from.0 0) 1
-      → b ≡ eqb (get_or m p.0 0) 1 → MarkedIf (a || b) e.to.0 m c m' → r ≡ false → Followed (edge_on W row) m c m'
+  pub edge_on_lem : length m ≤ none → (v : VersionRow) (a b c : Bool) (m' : List ℕ) → v ≡ W e.to.0 → a ≡ eqb (get_or m e.from.0 0) 1
+      → b ≡ eqb (get_or m v.previous.0 0) 1 → MarkedIf (a || b) e.to.0 m c m' → r ≡ false → Followed (edge_on W row) m c m'
   unfolding edge_on target_on
-  edge_on_lem l p a b c m' o x y w h =
+  edge_on_lem l v a b c m' o x y w h =
       subst (λ i. Followed (edge_on W i) m c m') q
-      (rw (← o) (two_arcs m l e.from.0 p.0 e.to.0 a b c m' (sym z ∙ h) x y w))
+      (rw (← o) (two_arcs m l e.from.0 v.previous.0 e.to.0 a b c m' (sym z ∙ h) x y w))
 
 -- what a later pass follows the first one follows
-pub later_first : (W : ℕ → VersionRow) (E : ℕ → EdgeRow) (n d : ℕ) (x : Arc) → Memᴰ x (later_on W E n d) → Memᴰ x (first_on W E n d)
+pub later_first : (T : Trail) (x : Arc) → Memᴰ x (later_on T) → Memᴰ x (first_on T)
 unfolding later_on first_on edge_on
-later_first W E n d x = with_more up up_iff x (λ k. target_on (E k)) (λ k. step_on (W (E k).to.0).previous.0 (E k).to.0) d _
+later_first T x = with_more up up_iff x (λ k. target_on (T.edge k)) (λ k. step_on (T.version (T.edge k).to.0).previous.0 (T.edge k).to.0) T.counts.edges _

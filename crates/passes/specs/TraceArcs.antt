@@ -1,12 +1,9 @@
 -- The arcs of the traces in the order in which a pass follows them: those of the edges, then the version steps of all versions.
 -- The first pass takes after each edge the step of the version that it enters, too.
-use Prim.Native.Nat.{ℕ}
-use mathlib.Core.Bool.{Bool, not, cond}
-use mathlib.Core.List.{List, [], ◌∷◌, ◌++◌}
-use lib.Dec.{eqb}
+use Rattle.std.specs.Prelude.{ℕ, Bool, not, cond, List, [], ◌∷◌, ◌++◌, eqb}
 use Rattle.rows.specs.declared.VersionRow.{VersionRow}
 use Rattle.rows.specs.declared.EdgeRow.{EdgeRow}
-use Rattle.rules.specs.Trail.{none}
+use Rattle.rules.specs.Trail.{Trail, none}
 use Rattle.rules.specs.Marks.{Arc, arc, pass, passes, seeded}
 use Rattle.rules.specs.Backward.{is_followed}
 use Rattle.passes.specs.Followed.{down, up}
@@ -28,16 +25,16 @@ source_back s t e = when (is_followed s t e) (arc e.to.0 e.from.0)
 unfoldable pub edge_back : (ℕ → VersionRow) → ℕ → ℕ → EdgeRow → List Arc
 edge_back W s t e = source_back s t e ++ step_back e.to.0 (W e.to.0).previous.0
 
--- of n versions and d edges: in the first pass, and in each later one
-unfoldable pub first_back : (ℕ → VersionRow) → (ℕ → EdgeRow) → ℕ → ℕ → ℕ → ℕ → List Arc
-first_back W E n d s t = down (λ k. edge_back W s t (E k)) d ++ down (λ v. step_back v (W v).previous.0) n
+-- in the first pass, and in each later one
+unfoldable pub first_back : Trail → ℕ → ℕ → List Arc
+first_back T s t = down (λ k. edge_back T.version s t (T.edge k)) T.counts.edges ++ down (λ v. step_back v (T.version v).previous.0) T.counts.versions
 
-unfoldable pub later_back : (ℕ → VersionRow) → (ℕ → EdgeRow) → ℕ → ℕ → ℕ → ℕ → List Arc
-later_back W E n d s t = down (λ k. source_back s t (E k)) d ++ down (λ v. step_back v (W v).previous.0) n
+unfoldable pub later_back : Trail → ℕ → ℕ → List Arc
+later_back T s t = down (λ k. source_back s t (T.edge k)) T.counts.edges ++ down (λ v. step_back v (T.version v).previous.0) T.counts.versions
 
 -- marked after the passes from version s
-unfoldable pub marked_back : (ℕ → VersionRow) → (ℕ → EdgeRow) → ℕ → ℕ → ℕ → ℕ → List ℕ
-marked_back W E n d s t = passes n (later_back W E n d s t) (pass (first_back W E n d s t) (seeded n (s ∷ [])))
+unfoldable pub marked_back : Trail → ℕ → ℕ → List ℕ
+marked_back T s t = passes T.counts.versions (later_back T s t) (pass (first_back T s t) (seeded T.counts.versions (s ∷ [])))
 
 -- forward
 
@@ -52,12 +49,12 @@ target_on e = arc e.from.0 e.to.0 ∷ []
 unfoldable pub edge_on : (ℕ → VersionRow) → EdgeRow → List Arc
 edge_on W e = target_on e ++ step_on (W e.to.0).previous.0 e.to.0
 
-unfoldable pub first_on : (ℕ → VersionRow) → (ℕ → EdgeRow) → ℕ → ℕ → List Arc
-first_on W E n d = up (λ k. edge_on W (E k)) d ++ up (λ v. step_on (W v).previous.0 v) n
+unfoldable pub first_on : Trail → List Arc
+first_on T = up (λ k. edge_on T.version (T.edge k)) T.counts.edges ++ up (λ v. step_on (T.version v).previous.0 v) T.counts.versions
 
-unfoldable pub later_on : (ℕ → VersionRow) → (ℕ → EdgeRow) → ℕ → ℕ → List Arc
-later_on W E n d = up (λ k. target_on (E k)) d ++ up (λ v. step_on (W v).previous.0 v) n
+unfoldable pub later_on : Trail → List Arc
+later_on T = up (λ k. target_on (T.edge k)) T.counts.edges ++ up (λ v. step_on (T.version v).previous.0 v) T.counts.versions
 
 -- marked after the passes from the marks m
-unfoldable pub marked_on : (ℕ → VersionRow) → (ℕ → EdgeRow) → ℕ → ℕ → List ℕ → List ℕ
-marked_on W E n d m = passes n (later_on W E n d) (pass (first_on W E n d) m)
+unfoldable pub marked_on : Trail → List ℕ → List ℕ
+marked_on T m = passes T.counts.versions (later_on T) (pass (first_on T) m)

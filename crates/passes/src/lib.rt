@@ -3,17 +3,19 @@
 
 mod back;
 mod on;
+mod order;
 
-ghost use mathlib.Core.List.{[], ◌∷◌};
+ghost use Rattle.std.specs.Prelude.{[], ◌∷◌};
 ghost use Rattle.rules.specs.Marks.{arc};
 ghost use Rattle.passes.specs.Followed.{Followed};
 
-pub use back::mark_back;
+pub use back::{Start, mark_back};
 use marks::{mark_if, marked};
 pub use on::mark_on;
 use rows::VersionNo;
 
 // Marks version `to` where `from` is marked, and says whether that is a new mark.
+#[tactic(auto, unfolding(crate::specs::Followed::changes, crate::specs::Followed::fires, rules::specs::Marks::pass, rules::specs::Marks::follow))]
 fn follow_arc(m: &mut [u8], from: VersionNo, to: VersionNo) -> bool
     ensures { Followed (arc from.0 to.0 ∷ []) m.old result m.new }
 {

@@ -1,6 +1,7 @@
 -- What a list of checks gives, from the facts of its conditions: `search checks depth 14` proves a result that was reached through
 -- early returns, `search picks depth 14` one that a choice on tests defines. Where a test compares with a number that a call returned
 -- on its right, or on both sides, `search (checks, by_right, by_both) depth 14 fits 10000`. Then what a list that passes says.
+use Rattle.std.specs.Prelude.{Ok, Err}
 use Prim.Native.Nat.{ℕ, ◌≤◌, ◌<◌}
 use mathlib.Core.Path.{◌≡◌, refl}
 use mathlib.Core.Bool.{Bool, true, false, not, cond}
@@ -9,12 +10,11 @@ use native.Mathlib.Omega.{arith}
 use lib.Dec.{leb, ltb, eqb}
 use borrow.Author.Tests.{lt-ltb, le-ltb, le-leb, lt-leb, eq-eqb, ne_eqb}
 use Rattle.refusals.specs.declared.Refusal.{Refusal}
-use Rattle.refusals.specs.declared.Checked.{Checked}
-use Rattle.refusals.specs.declared.Checked.TheVariants.{Passed, Refused}
+use Rattle.refusals.specs.Refusals.{Checked}
 use Rattle.refusals.specs.Refusals.{Check, check, first_of}
 
 module _ (x : Checked) (b : Bool) (r : Refusal) (cs : List Check) where
-  pub first_here : b ≡ true → x ≡ Refused r → x ≡ first_of (check b r ∷ cs)
+  pub first_here : b ≡ true → x ≡ Err r → x ≡ first_of (check b r ∷ cs)
   unfolding first_of
   first_here e p = rw e p
 
@@ -22,7 +22,7 @@ module _ (x : Checked) (b : Bool) (r : Refusal) (cs : List Check) where
   unfolding first_of
   first_next e p = rw e p
 
-pub first_none : Passed ≡ first_of []
+pub first_none : Ok tt ≡ first_of []
 unfolding first_of
 first_none = refl
 
@@ -115,13 +115,13 @@ abbrev pub AllFalse : List Check → Type 0
 AllFalse [] = Unit
 AllFalse (check b r ∷ cs) = (b ≡ false) × AllFalse cs
 
-pub passed_all_false : (cs : List Check) → first_of cs ≡ Passed → AllFalse cs
+pub passed_all_false : (cs : List Check) → first_of cs ≡ Ok tt → AllFalse cs
 unfolding first_of
 passed_all_false [] e = tt
 passed_all_false (check true r ∷ cs) e = absurd (let z : ◌≡◌ {A = ℕ} 0 1 = cc in omega arith)
 passed_all_false (check false r ∷ cs) e = (refl, passed_all_false cs e)
 
-pub all_false_passed : (cs : List Check) → AllFalse cs → first_of cs ≡ Passed
+pub all_false_passed : (cs : List Check) → AllFalse cs → first_of cs ≡ Ok tt
 unfolding first_of
 all_false_passed [] h = refl
 all_false_passed (check b r ∷ cs) h = rw h.0 (all_false_passed cs h.1)

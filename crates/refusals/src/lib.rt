@@ -1,61 +1,37 @@
-// The refusals of documents 01 and 02 by name. Their numbers stand in one definition, refusal_no.
+// The refusals of documents 01 and 02 by name, each with its number.
 #![tactic(auto)]
 
 ghost use Rattle.std.specs.Prelude.{◌≡◌};
 ghost use Rattle.refusals.specs.Refusals.{refusal_no};
 
-#[derive(Clone, Copy)]
+#[derive(Clone, Copy, Debug, PartialEq, Eq)]
 pub enum Refusal {
     // because of the input
-    NotEventFile,
-    WrongVersion,
-    CutShort,
-    BadField,
-    Undeclared,
-    NotNext,
-    SourceIsTarget,
-    WrongSort,
-    TooEarly,
+    NotEventFile = 1,
+    WrongVersion = 2,
+    CutShort = 3,
+    BadField = 4,
+    Undeclared = 5,
+    NotNext = 6,
+    SourceIsTarget = 7,
+    WrongSort = 8,
+    TooEarly = 9,
     // because of the state
-    EntitiesFull,
-    VersionsFull,
-    EdgesFull,
-    AcceptedFull,
-    BufferShort,
-    OutputShort,
-    Unsound,
+    EntitiesFull = 10,
+    VersionsFull = 11,
+    EdgesFull = 12,
+    AcceptedFull = 13,
+    BufferShort = 14,
+    OutputShort = 15,
+    Unsound = 16,
     // of document 02
-    Signed,
+    Signed = 17,
 }
 
-// What a list of checks gives.
-#[derive(Clone, Copy)]
-pub enum Checked {
-    Passed,
-    Refused(Refusal),
-}
+impl From<Refusal> for u32 {
+    ghost from_gives = { λ r n. n ≡ refusal_no r };
 
-// The number of a refusal.
-pub fn refusal_number(r: Refusal) -> u32
-    ensures { result ≡ refusal_no r }
-{
-    match r {
-        Refusal::NotEventFile => 1,
-        Refusal::WrongVersion => 2,
-        Refusal::CutShort => 3,
-        Refusal::BadField => 4,
-        Refusal::Undeclared => 5,
-        Refusal::NotNext => 6,
-        Refusal::SourceIsTarget => 7,
-        Refusal::WrongSort => 8,
-        Refusal::TooEarly => 9,
-        Refusal::EntitiesFull => 10,
-        Refusal::VersionsFull => 11,
-        Refusal::EdgesFull => 12,
-        Refusal::AcceptedFull => 13,
-        Refusal::BufferShort => 14,
-        Refusal::OutputShort => 15,
-        Refusal::Unsound => 16,
-        Refusal::Signed => 17,
+    fn from(r: Refusal) -> u32 {
+        r as u32
     }
 }

@@ -29,9 +29,6 @@ get_or_zeros (suc n) (suc i) = get_or_zeros n i
 
 -- Stores in code, one after another
 
-pub two_stores : (xs x1 x2 : List ℕ) (i a b : ℕ) → x1 ≡ set xs i a → x2 ≡ set x1 (i + 1) b → x2 ≡ sets xs i (a ∷ b ∷ [])
-two_stores xs x1 x2 i a b p q = rw (q, p, add-one)
-
 pub two_pairs : (xs x1 x2 : List ℕ) (i a b c d : ℕ) → x1 ≡ sets xs i (a ∷ b ∷ []) → x2 ≡ sets x1 (i + 2) (c ∷ d ∷ [])
     → x2 ≡ sets xs i (a ∷ b ∷ c ∷ d ∷ [])
 two_pairs xs x1 x2 i a b c d p q =
@@ -61,3 +58,5 @@ last_pair xs i e f =
     let e4 : i + 4 ≡ suc (suc (suc (suc i))) = omega arith in
     let e5 : i + 5 ≡ suc (suc (suc (suc (suc i)))) = omega arith in
     rw (e1, e2, e3, e4, e5, set_same xs i, set_same xs (suc i), set_same xs (suc (suc i)), set_same xs (suc (suc (suc i))))
+
+pub ruleset pairs = (two_pairs, three_pairs)

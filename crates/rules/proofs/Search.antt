@@ -1,5 +1,6 @@
 -- The search for a repeat from the newest edge (document 02, 2.3): what it finds is the edge that the event repeats, and what it tries is
 -- counted from there.
+use Rattle.std.specs.Prelude.{Some, None}
 use Prim.Native.Nat.{ℕ, zero, suc, ◌<◌}
 use native.Mathlib.Omega.{arith}
 use mathlib.Core.Path.{◌≡◌, refl, sym, ◌∙◌, ap}
@@ -8,8 +9,7 @@ use mathlib.Core.Bool.{Bool, true, false, ◌&&◌}
 use lib.Dec.{eqb}
 use borrow.Author.Tests.{eqb-true, eqb-false}
 use Rattle.rows.specs.declared.EdgeNo.{EdgeNo}
-use Rattle.rules.specs.declared.Found.{Found}
-use Rattle.rules.specs.declared.Found.TheVariants.{At, Nothing}
+use Rattle.rules.specs.Decide.{Found}
 use Rattle.rules.specs.Trail.{Trail, owner_of}
 use Rattle.rules.specs.Decide.{edge_no, goes_to, newest_to}
 use Rattle.rules.specs.Record.{to_hit}
@@ -32,11 +32,11 @@ module _ (T : Trail) (f x : ℕ) where
       go true p false q = inr ((λ h. eqb-false _ _ q h.enters), refl)
       go false p b q = inr ((λ h. eqb-false _ _ p h.leaves), refl)
 
-  found_none : found zero ≡ Nothing
+  found_none : found zero ≡ None
   unfolding newest_to
   found_none = refl
 
-  found_hit : (k : ℕ) → goes_to T.edge T.version f x k ≡ true → found (suc k) ≡ At (edge_no k)
+  found_hit : (k : ℕ) → goes_to T.edge T.version f x k ≡ true → found (suc k) ≡ Some (edge_no k)
   unfolding newest_to
   found_hit k q = rw q
 
@@ -45,11 +45,11 @@ module _ (T : Trail) (f x : ℕ) where
   found_missed k q = rw q
 
   -- the hit is one of the edges
-  found_below : (n : ℕ) (k : EdgeNo) → found n ≡ At k → k.0 < n
+  found_below : (n : ℕ) (k : EdgeNo) → found n ≡ Some k → k.0 < n
   found_below zero k p = let q = sym found_none ∙ p in absurd (let z : ◌≡◌ {A = ℕ} 0 1 = cc in omega arith)
   found_below (suc n) k p = go (hit_case n) (found_below n k)
     where
-      go : HitCase n → (found n ≡ At k → k.0 < n) → k.0 < suc n
+      go : HitCase n → (found n ≡ Some k → k.0 < n) → k.0 < suc n
       go (inl (h, q)) b =
           let z = sym (found_hit n q) ∙ p in
           let e : edge_no n ≡ k = cc in
@@ -60,11 +60,11 @@ module _ (T : Trail) (f x : ℕ) where
   tried_missed : (n : ℕ) → to_hit (suc n) (found n) ≡ suc (to_hit n (found n))
   tried_missed n = go (found n) (found_below n)
     where
-      go : (r : Found) → ((k : EdgeNo) → r ≡ At k → k.0 < n) → to_hit (suc n) r ≡ suc (to_hit n r)
-      go (At k) b = omega (arith, b k refl)
-      go Nothing b = refl
+      go : (r : Found) → ((k : EdgeNo) → r ≡ Some k → k.0 < n) → to_hit (suc n) r ≡ suc (to_hit n r)
+      go (Some k) b = omega (arith, b k refl)
+      go None b = refl
 
-  tried_hit : (k : ℕ) → to_hit (suc k) (At (edge_no k)) ≡ 1
+  tried_hit : (k : ℕ) → to_hit (suc k) (Some (edge_no k)) ≡ 1
   tried_hit k = omega arith
 
   pub search_ends : (n : ℕ) → Search T f x n (to_hit n (found n)) (found n)
@@ -79,7 +79,7 @@ module _ (T : Trail) (f x : ℕ) where
   search_only none_left = rw found_none (refl, refl)
   search_only (stopped {k} h) = go (hit_case k)
     where
-      go : HitCase k → (1 ≡ to_hit (suc k) (found (suc k))) × (At (edge_no k) ≡ found (suc k))
+      go : HitCase k → (1 ≡ to_hit (suc k) (found (suc k))) × (Some (edge_no k) ≡ found (suc k))
       go (inl (h', q)) = rw (found_hit k q, tried_hit k) (refl, refl)
       go (inr (m, q)) = absurd (m h)
   search_only (went_on {k} {tried} {found = r} m s) = go (hit_case k) (search_only s)

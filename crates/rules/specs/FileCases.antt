@@ -1,12 +1,11 @@
 -- Document 01, "The event file": each byte of the header and of a record just right and just wrong. The proof is in
 -- proofs/FileCases.antt.
-use Rattle.std.specs.Prelude.{ℕ, ◌≡◌, List, [], ◌∷◌, ◌++◌, map, get_or, take, set, replicate}
+use Rattle.std.specs.Prelude.{ℕ, ◌≡◌, List, [], ◌∷◌, ◌++◌, map, get_or, take, set, replicate, Ok, Some}
 use Rattle.rows.specs.Rows.{entity_no}
 use Rattle.record.specs.declared.Kind.{Kind}
 use Rattle.record.specs.declared.Kind.TheVariants.{Read, Write, Load, Fork, Execve}
 use Rattle.record.specs.declared.Record.{Record}
 use Rattle.record.specs.declared.Record.TheVariants as records
-use Rattle.record.specs.declared.Decoded.TheVariants.{Whole}
 use Rattle.record.specs.Layout.{kind_of}
 use Rattle.record.specs.Decode.{decode_of}
 use Rattle.record.specs.Encode.{encode_of}
@@ -96,11 +95,11 @@ pub record FileCases : Type 0 where
   pub kinds : map kind_of (1 ∷ 2 ∷ 3 ∷ 4 ∷ 5 ∷ []) ≡ Read ∷ Write ∷ Load ∷ Fork ∷ Execve ∷ []
   -- "Multi-byte fields are little-endian.", past 8, 16 and 24 bits
   pub time_bytes : map (λ i. (read_with i 2).counts.last) (8 ∷ 9 ∷ 10 ∷ 11 ∷ []) ≡ 2 ∷ 513 ∷ 131073 ∷ 33554433 ∷ []
-  pub decoded_event : decode_of 1 numbered_bytes ≡ Whole numbered
-  pub decoded_declaration : decode_of 1 numbered_subject_bytes ≡ Whole numbered_subject
+  pub decoded_event : decode_of 1 numbered_bytes ≡ Ok (Some numbered)
+  pub decoded_declaration : decode_of 1 numbered_subject_bytes ≡ Ok (Some numbered_subject)
   pub encoded_event : encode_of numbered ≡ numbered_bytes
   pub encoded_declaration : encode_of numbered_subject ≡ numbered_subject_bytes
-  pub decoded_greatest : decode_of 1 greatest_bytes ≡ Whole greatest_event
+  pub decoded_greatest : decode_of 1 greatest_bytes ≡ Ok (Some greatest_event)
   pub encoded_greatest : map encode_of (greatest_event ∷ greatest_object ∷ []) ≡ greatest_bytes ∷ (0 ∷ 0 ∷ 255 ∷ 255 ∷ replicate 8 0) ∷ []
   pub encoded_kinds : map encoded_kind (Read ∷ Write ∷ Load ∷ Fork ∷ Execve ∷ []) ≡ 1 ∷ 2 ∷ 3 ∷ 4 ∷ 5 ∷ []
   -- the greatest time; after it an earlier one is refused, and the same accepted

@@ -1,14 +1,12 @@
 -- Document 01, "One record": which events repeat, which widen a version and which make one, with every number of the tables
 -- that they leave. The proof is in proofs/RecordCases.antt.
-use Rattle.std.specs.Prelude.{ℕ, ◌≡◌, List, [], ◌∷◌, ◌++◌, map, take, replicate}
+use Rattle.std.specs.Prelude.{ℕ, ◌≡◌, List, [], ◌∷◌, ◌++◌, map, take, replicate, Ok, Err, Some}
 use Rattle.refusals.specs.declared.Refusal.TheVariants.{TooEarly}
-use Rattle.refusals.specs.declared.Checked.TheVariants.{Passed, Refused}
 use Rattle.rows.specs.declared.Counts.{Counts}
 use Rattle.rows.specs.Rows.{entity_row, version_row, edge_row, entity_no, entity_at, version_at, edge_at, put_edge}
 use Rattle.record.specs.declared.Kind.TheVariants.{Read}
 use Rattle.record.specs.declared.Event.{Event}
 use Rattle.record.specs.declared.Record.TheVariants as records
-use Rattle.rules.specs.declared.Found.TheVariants.{At}
 use Rattle.rules.specs.Trail.{Tables, Trail, tables, trail_of, counts, fresh_counts, none}
 use Rattle.rules.specs.Decide.{edge_no, repeat_of}
 use Rattle.rules.specs.Batch.{Batched, results, take_in, batch_of}
@@ -80,8 +78,8 @@ pub record RecordCases : Type 0 where
   pub after_load : map (kept_of_two 3) (1 ∷ 3 ∷ 5 ∷ []) ≡ 1 ∷ 1 ∷ 2 ∷ []
   pub after_execve : map (kept_of_two 5) (1 ∷ 3 ∷ 5 ∷ []) ≡ 1 ∷ 1 ∷ 2 ∷ []
   -- where two edges do, the newest is found
-  pub newest_repeated : repeat_of two_edges (read 0 1 3) ≡ At (edge_no 1)
-  pub newest_into_older : repeat_of older_newer (read 0 1 10) ≡ At (edge_no 4)
+  pub newest_repeated : repeat_of two_edges (read 0 1 3) ≡ Some (edge_no 1)
+  pub newest_into_older : repeat_of older_newer (read 0 1 10) ≡ Some (edge_no 4)
   pub two_writes : (taken_in (declare 0 1 ++ (declare 1 0 ++ (event 2 0 1 1 ++ event 2 0 1 2)))).counts ≡ counts 2 2 1 2 2
   pub two_forks : (taken_in (declare 0 1 ++ (declare 1 1 ++ (event 4 0 1 1 ++ event 4 0 1 2)))).counts ≡ counts 2 2 2 2 2
   pub two_targets : map (λ es. (three_then es).counts.edges) ((event 1 0 1 1 ++ event 1 0 2 2) ∷ (event 1 0 2 1 ++ event 1 0 1 2) ∷ []) ≡ 2 ∷ 2 ∷ []
@@ -143,7 +141,7 @@ pub record RecordCases : Type 0 where
   pub late_entities : map (entity_at grown_then_declared.tables.entities) (0 ∷ 1 ∷ 2 ∷ 3 ∷ 4 ∷ []) ≡ entity_row 0 0 ∷ entity_row 1 4 ∷ entity_row 0 5 ∷ entity_row 0 3 ∷ entity_row 1 6 ∷ []
   pub late_version : version_at grown_then_declared.tables.versions 6 ≡ version_row 4 0 0 none
   -- a refused record leaves nothing of itself: reads that are earlier, one that would be kept and one that would repeat
-  pub refused_record : take_in (versions_used 5) (longer 2 4 6) 0 (records.Event (read 3 1 8) ∷ []) Passed
-      ≡ results (Refused TooEarly) 0 (versions_used 5) (longer 2 4 6)
-  pub refused_repeat : take_in (versions_used 5) (longer 2 4 6) 0 (records.Event (read 0 1 8) ∷ []) Passed
-      ≡ results (Refused TooEarly) 0 (versions_used 5) (longer 2 4 6)
+  pub refused_record : take_in (versions_used 5) (longer 2 4 6) 0 (records.Event (read 3 1 8) ∷ []) (Ok tt)
+      ≡ results (Err TooEarly) 0 (versions_used 5) (longer 2 4 6)
+  pub refused_repeat : take_in (versions_used 5) (longer 2 4 6) 0 (records.Event (read 0 1 8) ∷ []) (Ok tt)
+      ≡ results (Err TooEarly) 0 (versions_used 5) (longer 2 4 6)

@@ -1,8 +1,7 @@
 -- Document 02, 2.4: signatures in a file, by its version: the bytes of a record and of the header. The proof is in
 -- proofs/SignatureCases.antt.
-use Rattle.std.specs.Prelude.{ℕ, ◌≡◌, List, [], ◌∷◌, ◌++◌, map, take, set, replicate}
+use Rattle.std.specs.Prelude.{ℕ, ◌≡◌, List, [], ◌∷◌, ◌++◌, map, take, set, replicate, Ok, Err, Some}
 use Rattle.refusals.specs.declared.Refusal.TheVariants.{BadField}
-use Rattle.record.specs.declared.Decoded.TheVariants.{Whole, Refused}
 use Rattle.record.specs.Decode.{decode_of}
 use Rattle.record.specs.Encode.{encode_of}
 use Rattle.rules.specs.declared.BatchAnswer.{BatchAnswer}
@@ -83,8 +82,8 @@ pub record SignatureCases : Type 0 where
   -- kind 6 with the target and the time of an event
   pub event_kind : map (read_with_2 0) (0 ∷ 1 ∷ 2 ∷ 3 ∷ 4 ∷ 5 ∷ 6 ∷ 7 ∷ []) ≡ 4 ∷ 0 ∷ 8 ∷ 0 ∷ 8 ∷ 0 ∷ 4 ∷ 4 ∷ []
   -- "Multi-byte fields are little-endian."
-  pub decoded : map (decode_of 2) (numbered_signature ∷ greatest_signature ∷ []) ≡ Whole (signature_record 513) ∷ Whole (signature_record 65535) ∷ []
-  pub decoded_in_1 : map (decode_of 1) (numbered_signature ∷ greatest_signature ∷ []) ≡ Refused BadField ∷ Refused BadField ∷ []
+  pub decoded : map (decode_of 2) (numbered_signature ∷ greatest_signature ∷ []) ≡ Ok (Some (signature_record 513)) ∷ Ok (Some (signature_record 65535)) ∷ []
+  pub decoded_in_1 : map (decode_of 1) (numbered_signature ∷ greatest_signature ∷ []) ≡ Err BadField ∷ Err BadField ∷ []
   pub decoded_others : map (decode_of 2) (numbered_bytes ∷ numbered_subject_bytes ∷ greatest_bytes ∷ declare 0 2 ∷ [])
-      ≡ Whole numbered ∷ Whole numbered_subject ∷ Whole greatest_event ∷ Refused BadField ∷ []
+      ≡ Ok (Some numbered) ∷ Ok (Some numbered_subject) ∷ Ok (Some greatest_event) ∷ Err BadField ∷ []
   pub encoded : map (λ x. encode_of (signature_record x)) (0 ∷ 513 ∷ 65535 ∷ []) ≡ sign 0 ∷ numbered_signature ∷ greatest_signature ∷ []

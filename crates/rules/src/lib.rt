@@ -3,13 +3,6 @@
 
 use rows::EdgeNo;
 
-// Which edge a search found.
-#[derive(Clone, Copy)]
-pub enum Found {
-    At(EdgeNo),
-    Nothing,
-}
-
 // What becomes of an event: it repeats what an edge already gave, or its edge enters the target's
 // latest version, or a new one.
 #[derive(Clone, Copy)]
@@ -19,9 +12,9 @@ pub enum Decision {
     Renew,
 }
 
-// What the calls return.
+// What the calls return. C reads them, so a refusal is its number, and 0 is none.
 #[repr(C)]
-#[derive(Clone, Copy)]
+#[derive(Clone, Copy, Default)]
 pub struct BatchAnswer {
     pub refusal: u32,
     pub taken: u32,

@@ -1,5 +1,5 @@
 -- The loop over the edges, which keeps the least time of the next one and the sum of the counts.
-use Prim.Native.Nat.{ℕ, suc, ◌+◌, ◌-◌, ◌≤◌, ◌<◌}
+use Prim.Native.Nat.{ℕ, suc, ◌+◌, ◌-◌, ◌<◌}
 use native.Mathlib.Numerals.{add-one}
 use native.Mathlib.Omega.{arith}
 use mathlib.Core.Path.{◌≡◌, refl, sym, ◌∙◌, ap}
@@ -12,8 +12,9 @@ use Rattle.rows.specs.declared.EdgeRow.{EdgeRow}
 use Rattle.rows.specs.Rows.{edge_at}
 use Rattle.rules.specs.Sound.{all_below, time_before, count_sum, sum_below}
 use Rattle.soundness.specs.Parts.{least_time, coded_edge, coded_test}
-use Rattle.soundness.proofs.All.{all_stop, all_next, all_end}
-use Rattle.soundness.proofs.Tests.{and_false, and_next}
+use Rattle.soundness.proofs.All.{all_none, all_stop, all_next}
+use Rattle.soundness.proofs.Sums.{sum_zero}
+use Rattle.soundness.proofs.Tests.{and_false}
 
 pub time_before_zero : (E : ℕ → EdgeRow) → 0 ≡ time_before E 0
 unfolding time_before
@@ -59,8 +60,4 @@ pub sum_read : (ds : List ℕ) (k : ℕ) (e : EdgeRow) → e ≡ edge_at ds k �
 unfolding sum_below
 sum_read ds k e q s p = rw (add-one k, p, q)
 
-pub edges_end : (p : ℕ → Bool) (E : ℕ → EdgeRow) (n k s a : ℕ) → all_below p k ≡ true → s ≡ count_sum E k → k ≤ n → n ≤ k
-    → eqb s a ≡ (all_below p n && eqb (count_sum E n) a)
-edges_end p E n k s a h q l g =
-    let e : k ≡ n = omega arith in
-    and_next _ _ _ (sym (all_end p n k h l g)) (rw (q, e))
+pub ruleset edge_loop = (all_none, least_time_zero, time_next, edges_stop, edges_next, sum_read, sum_zero)

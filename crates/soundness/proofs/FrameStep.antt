@@ -1,10 +1,10 @@
 -- What one record that is taken in over sound tables leaves as it was lent.
+use Rattle.std.specs.Prelude.{Ok}
 use Prim.Native.Nat.{ℕ}
 use native.Mathlib.Omega.{arith}
 use mathlib.Core.Path.{◌≡◌, sym, subst, ◌∙◌, ap}
 use mathlib.Core.Bool.{true}
-use Rattle.refusals.specs.declared.Checked.{Checked}
-use Rattle.refusals.specs.declared.Checked.TheVariants.{Passed}
+use Rattle.refusals.specs.Refusals.{Checked}
 use Rattle.rows.specs.declared.Counts.{Counts}
 use Rattle.record.specs.declared.Event.{Event}
 use Rattle.record.specs.declared.Record.{Record}
@@ -38,7 +38,7 @@ module _ (cap : Capacity) (T : Trail) (f : RowFacts T) where
   happened_in_use e Widen p = ((f.entity e.target.0 p.target_in).latest_in, (omega arith, tt))
   happened_in_use e Renew p = (omega arith, (p.target_in, (omega arith, tt)))
 
-  writes_in_use : (r : Record) → refusal_of cap T r ≡ Passed → Within (in_use (change_of T r).counts) (change_of T r).writes
+  writes_in_use : (r : Record) → refusal_of cap T r ≡ Ok tt → Within (in_use (change_of T r).counts) (change_of T r).writes
   unfolding refusal_of change_of
   writes_in_use (records.Declaration d) h = (omega arith, (omega arith, tt))
   writes_in_use (records.Event e) h = happened_in_use e (decision_of T e) (event-taken cap T e h)
@@ -50,7 +50,7 @@ module _ (cap : Capacity) (T : Trail) (f : RowFacts T) where
   happened_grow e Widen p = let l = p.not_earlier in search arith
   happened_grow e Renew p = let l = p.not_earlier in search arith
 
-  counts_grow : (r : Record) → refusal_of cap T r ≡ Passed → CountsGrow T.counts (change_of T r).counts
+  counts_grow : (r : Record) → refusal_of cap T r ≡ Ok tt → CountsGrow T.counts (change_of T r).counts
   unfolding refusal_of change_of
   counts_grow (records.Declaration d) h = search arith
   counts_grow (records.Event e) h = happened_grow e (decision_of T e) (event-taken cap T e h)
@@ -66,7 +66,7 @@ module _ (c : Counts) (t : Tables) (s : is_sound (capacity_of t) (trail_of c t) 
   facts : RowFacts T
   facts = sound_rows cap T s
 
-  module _ (h : refusal_of cap T r ≡ Passed) where
+  module _ (h : refusal_of cap T r ≡ Ok tt) where
     past : AllPastStay (in_use (change_of T r).counts) t (written t (change_of T r).writes)
     past = past_written _ t (change_of T r).writes (writes_in_use cap T facts r h)
 

@@ -10,7 +10,8 @@ use Rattle.refusals.proofs.Checks.{not_true_of, pick_true, pick_false}
 use Rattle.rules.specs.Trail.{Capacity, Trail}
 use Rattle.rules.specs.Sound.{may_follow, time_before, sound_counts, sound_entity, sound_previous, sound_version, entity_test, version_test, edge_test, is_sound}
 use Rattle.soundness.specs.Facts.{CountFacts, EntityFacts, VersionFacts, EdgeFacts, RowFacts}
-use Rattle.soundness.proofs.All.{and_of, done, ◌also◌, hold_every, at_all}
+use Rattle.std.proofs.lemmas.Bool.{and_from}
+use Rattle.soundness.proofs.All.{done, ◌also◌, hold_every, at_all}
 use Rattle.soundness.proofs.Edges.{time_before_zero, time_before_suc}
 
 pub counts-pass : (cap : Capacity) (c : Counts) → CountFacts cap c → sound_counts cap c ≡ true
@@ -66,10 +67,10 @@ module _ (T : Trail) where
     pub facts_sound : (cap : Capacity) → CountFacts cap T.counts → is_sound cap T ≡ true
     unfolding is_sound
     facts_sound cap g =
-        and_of _ _
-        (and_of _ _
-        (and_of _ _
-        (and_of _ _ (counts-pass cap T.counts g) (at_all _ _ (λ x l. entity_passes x (f.entity x l))))
+        and_from _ _
+        (and_from _ _
+        (and_from _ _
+        (and_from _ _ (counts-pass cap T.counts g) (at_all _ _ (λ x l. entity_passes x (f.entity x l))))
         (at_all _ _ (λ k l. version_passes k (f.version k l))))
         (at_all _ _ (λ k l. edge-passes k (f.edge k l) (after k l))))
         (eq-eqb _ _ f.sum)

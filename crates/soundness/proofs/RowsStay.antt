@@ -1,10 +1,10 @@
 -- What stays of the rows in use when a record is taken in.
+use Rattle.std.specs.Prelude.{Ok}
 use Prim.Native.Nat.{ℕ, ◌≤◌, ◌<◌}
 use native.Mathlib.Omega.{arith}
 use mathlib.Core.Path.{◌≡◌, refl, ap}
 use mathlib.Core.Logic.{◌⊎◌, inl, inr, ⊎_elim}
 use mathlib.Core.Bool.{true}
-use Rattle.refusals.specs.declared.Checked.TheVariants.{Passed}
 use Rattle.rows.specs.declared.EntityRow.{EntityRow}
 use Rattle.rows.specs.declared.VersionRow.{VersionRow}
 use Rattle.record.specs.declared.Declaration.{Declaration}
@@ -100,7 +100,7 @@ module _ (T : Trail) where
         extends_stay _ (renewed_extends cap T e Renew p) renewed_latest (added_ends _) (λ k l. inl (old_row T e _ k l))
         (λ x l s. happened_keeps T x l s cap f e Renew q p)
 
-  pub step_stay : (cap : Capacity) (r : Record) → refusal_of cap T r ≡ Passed → RowFacts T → RowsStay T (changed T (change_of T r))
+  pub step_stay : (cap : Capacity) (r : Record) → refusal_of cap T r ≡ Ok tt → RowFacts T → RowsStay T (changed T (change_of T r))
   unfolding refusal_of change_of
   step_stay cap (records.Declaration d) h f = declared_stay d
   step_stay cap (records.Event e) h f = happened_stay cap f e (decision_of T e) refl (event-taken cap T e h)

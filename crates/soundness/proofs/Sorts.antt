@@ -101,25 +101,6 @@ module _ (s : ℕ) where
       go true q = sym (eqb-true s 1 q)
       go false q = omega (arith, eqb-false s 1 q, eqb-false s signed_sort h)
 
--- what a kind asks for, from the tests of it
-
-module _ (kind : ℕ) where
-  pub by_write : kind ≡ kind_no Write → 1 ≡ source_sort kind
-  by_write p = rw (eq-eqb kind (kind_no Write) p)
-
-  pub into_object : kind ≡ kind_no Write → 0 ≡ target_sort kind
-  into_object p = rw (eq-eqb kind (kind_no Write) p)
-
-  module _ (n : kind ≡ kind_no Write → ⊥) where
-    pub by_fork : kind ≡ kind_no Fork → 1 ≡ source_sort kind
-    by_fork p = rw (ne_eqb kind (kind_no Write) n, eq-eqb kind (kind_no Fork) p)
-
-    pub from_object : (kind ≡ kind_no Fork → ⊥) → 0 ≡ source_sort kind
-    from_object p = rw (ne_eqb kind (kind_no Write) n, ne_eqb kind (kind_no Fork) p)
-
-    pub into_subject : 1 ≡ target_sort kind
-    into_subject = rw (ne_eqb kind (kind_no Write) n)
-
 -- a kind asks for a subject or for an object, as b says
 fits_by : (b t : Bool) → eqb (cond t 1 0) (cond b 1 0) ≡ cond b t (not t)
 fits_by true true = refl

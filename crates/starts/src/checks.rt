@@ -1,50 +1,33 @@
 // Refusals 16, 5 and 14 of a trace.
-ghost use mathlib.Core.Path.{◌≡◌};
+ghost use Rattle.std.specs.Prelude.{◌≡◌};
 ghost use Rattle.refusals.specs.Refusals.{first_of};
-ghost use Rattle.rules.specs.Trail.{tables};
-ghost use Rattle.starts.specs.EntityList.{any_undeclared, checks_with};
+ghost use Rattle.rules.specs.Trail.{lent};
+ghost use Rattle.rules.specs.Backward.{trace_checks};
+ghost use Rattle.starts.specs.EntityList.{any_undeclared};
 
-use refusals::{Checked, Refusal};
-use rows::Counts;
+use refusals::Refusal;
+use rows::Lent;
 
 // Whether one of the members is none of e entities.
 pub fn any_undeclared(e: u32, members: &[u32]) -> bool
     ensures { result ≡ any_undeclared e members.now }
 {
-    let mut i: usize = 0;
-    while i < members.len() {
-        if e <= members[i] {
-            return true;
-        }
-        i += 1;
-    }
-    false
+    members.iter().any(|u| e <= *u)
 }
 
-// The first of 16, 5 and 14 that holds, where it is known whether one of the entities is undeclared.
-pub fn check_trace(
-    c: Counts,
-    entities: &[u32],
-    versions: &[u32],
-    edges: &[u32],
-    undeclared: bool,
-    work: &[u8],
-    marks: &[u8],
-) -> Checked
-    ensures { result ≡ first_of
-        (checks_with c (tables entities.now versions.now edges.now) undeclared work.now marks.now) }
+// The first of 16, 5 and 14 that holds.
+#[tactic(auto, using(crate::proofs::MemberChecks::trace_checked))]
+pub fn check_trace(t: &Lent, members: &[u32], work: &[u8], marks: &[u8]) -> Result<(), Refusal>
+    ensures { result ≡ first_of (trace_checks t.now.counts (lent t.now) members.now work.now marks.now) }
 {
-    if !soundness::is_sound(c, entities, versions, edges) {
-        return Checked::Refused(Refusal::Unsound);
+    if !soundness::is_sound(t) {
+        return Err(Refusal::Unsound);
     }
-    if undeclared {
-        return Checked::Refused(Refusal::Undeclared);
+    if any_undeclared(t.counts.entities, members) {
+        return Err(Refusal::Undeclared);
     }
-    if work.len() < (c.versions as usize) {
-        return Checked::Refused(Refusal::BufferShort);
+    if work.len() < (t.counts.versions as usize) || marks.len() < (t.counts.entities as usize) {
+        return Err(Refusal::BufferShort);
     }
-    if marks.len() < (c.entities as usize) {
-        return Checked::Refused(Refusal::BufferShort);
-    }
-    Checked::Passed
+    Ok(())
 }

@@ -13,21 +13,20 @@ use Rattle.closure.proofs.Closed.{closed_same}
 use Rattle.closure.proofs.Start.{start_in}
 use Rattle.closure.proofs.TraceArcs.{has_previous, edges_back-collected, steps_back-collected}
 use Rattle.closure.proofs.Backward.{backward_arcs_ends}
-use Rattle.trace.specs.Followed.{down}
-use Rattle.trace.specs.TraceArcs.{step_back, source_back, edge_back, first_back, later_back, marked_back}
-use Rattle.trace.proofs.Members.{down_iff, arcs_of}
+use Rattle.passes.specs.Followed.{down}
+use Rattle.passes.specs.TraceArcs.{step_back, source_back, edge_back, first_back, later_back, marked_back}
+use Rattle.passes.proofs.Members.{down_iff, arcs_of}
 
 module _ (T : Trail) (f : RowFacts T) where
   members : (s t : ℕ) (x : Arc)
-      → (Memᴰ x (first_back T.version T.edge T.counts.versions T.counts.edges s t) → Memᴰ x (backward_arcs T s t))
-      × (Memᴰ x (later_back T.version T.edge T.counts.versions T.counts.edges s t) ↔ Memᴰ x (backward_arcs T s t))
+      → (Memᴰ x (first_back T s t) → Memᴰ x (backward_arcs T s t))
+      × (Memᴰ x (later_back T s t) ↔ Memᴰ x (backward_arcs T s t))
   unfolding first_back later_back edge_back source_back step_back backward_arcs
   members s t x =
       rw (edges_back-collected T.edge s t T.counts.edges, steps_back-collected T.version T.counts.versions)
       (arcs_of down down_iff x (λ k. is_followed s t (T.edge k)) (has_previous T.version) (λ k. arc (T.edge k).to.0 (T.edge k).from.0) (λ v. arc v (T.version v).previous.0) T.counts.edges T.counts.versions (λ k. (T.edge k).to.0) (λ k l. (f.edge k l).to_in))
 
-  pub work_back : (v t : ℕ) → v < T.counts.entities
-      → marked_back T.version T.edge T.counts.versions T.counts.edges (start_of T v t) t ≡ backward_work T v t
+  pub work_back : (v t : ℕ) → v < T.counts.entities → marked_back T (start_of T v t) t ≡ backward_work T v t
   unfolding marked_back backward_work
   work_back v t h =
       let s = start_of T v t in

@@ -1,173 +1,112 @@
 // Backward and forward traces over the lent tables (document 01, "Traces"). Marks stand in the lent buffers alone.
 #![tactic(auto)]
 
-mod back;
-mod checks;
-mod intake;
-mod marks;
-mod on;
-mod owners;
-mod start;
-
-ghost use Rattle.std.specs.Prelude.{◌≡◌, [], ◌∷◌, length};
-ghost use Rattle.refusals.specs.declared.Checked.TheVariants.{Passed};
+ghost use Rattle.std.specs.Prelude.{◌≡◌, [], ◌∷◌, length, Ok};
 ghost use Rattle.refusals.specs.Refusals.{first_of};
-ghost use Rattle.rules.specs.Trail.{tables, trail_of};
+ghost use Rattle.rules.specs.Trail.{lent};
 ghost use Rattle.rules.specs.Backward.{trace_checks, backward_trace, backward_of};
-ghost use Rattle.rules.specs.Forward.{forward_trace, forward_of};
-ghost use Rattle.trace.specs.EntityList.{Traceable, VersionsMarked};
+ghost use Rattle.rules.specs.Forward.{forward_intake, forward_work, forward_trace, forward_of};
+ghost use Rattle.marks.specs.Fitted.{trail_in};
+ghost use Rattle.intake.specs.Traceable.{Traceable};
 
-use back::mark_back;
-use checks::{any_undeclared, check_trace};
 use intake::intake;
-use on::mark_on;
-use owners::mark_entities;
-use refusals::Checked;
-use rows::{Counts, EntityNo};
+use marks::{Fitted, mark_entities};
+use passes::{Start, mark_back, mark_on};
+use rows::{EntityNo, Lent};
 use rules::{BackwardAnswer, ForwardAnswer};
-use start::{mark_starts, start_version};
+use starts::{check_trace, mark_starts, start_version};
 
 // The backward trace of entity x, where the checks pass.
-fn trace_back(
-    c: Counts,
-    entities: &[u32],
-    versions: &[u32],
-    edges: &[u32],
-    x: EntityNo,
-    time: u32,
-    work: &mut [u8],
-    marks: &mut [u8],
-) -> BackwardAnswer
-    requires { first_of (trace_checks c (tables entities.now versions.now edges.now) (x.0 ∷ []) work.old marks.old) ≡ Passed }
-    ensures { backward_trace result work.new marks.new
-        ≡ backward_of c (tables entities.now versions.now edges.now) x.0 time work.old
-        marks.old }
+#[tactic(auto, using(crate::proofs::Buffers::room))]
+fn trace_back(t: &Lent, x: EntityNo, time: u32, work: &mut [u8], marks: &mut [u8]) -> BackwardAnswer
+    requires { first_of (trace_checks t.now.counts (lent t.now) (x.0 ∷ []) work.old marks.old) ≡ Ok tt }
+    ensures { backward_trace result work.new marks.new ≡ backward_of t.now.counts (lent t.now) x.0 time work.old marks.old }
 {
-    let s = start_version(c, entities, versions, x, time);
-    let n = c.versions as usize;
-    mark_back(c, versions, edges, &mut work[..n], s, time);
-    let count = mark_entities(c, versions, work, marks);
+    let start = Start {
+        version: start_version(t, x, time),
+        time,
+    };
+    let n = t.counts.versions as usize;
+    let fitted = Fitted { trail: *t };
+    mark_back(&fitted, &mut work[..n], start);
+    let count = mark_entities(t, work, marks);
     BackwardAnswer { refusal: 0, count }
 }
 
 // The backward trace of an entity at a time: the marks in the two buffers, and how many entities are marked.
+#[tactic(auto, unfolding(rules::specs::Backward::backward_of))]
 pub fn backward(
-    counts: Counts,
-    entities: &[u32],
-    versions: &[u32],
-    edges: &[u32],
+    t: &Lent,
     entity: u32,
     time: u32,
     work: &mut [u8],
     marks: &mut [u8],
 ) -> BackwardAnswer
-    ensures { backward_trace result work.new marks.new
-        ≡ backward_of counts (tables entities.now versions.now edges.now) entity time work.old
-        marks.old }
+    ensures { backward_trace result work.new marks.new ≡ backward_of t.now.counts (lent t.now) entity time work.old marks.old }
 {
-    let undeclared = counts.entities <= entity;
-    let checked = check_trace(counts, entities, versions, edges, undeclared, work, marks);
-    match checked {
-        Checked::Refused(r) => BackwardAnswer {
-            refusal: refusals::refusal_number(r),
+    match check_trace(t, &[entity], work, marks) {
+        Err(r) => BackwardAnswer {
+            refusal: u32::from(r),
             count: 0,
         },
-        Checked::Passed => trace_back(
-            counts,
-            entities,
-            versions,
-            edges,
-            EntityNo(entity),
-            time,
-            work,
-            marks,
-        ),
+        Ok(()) => trace_back(t, EntityNo(entity), time, work, marks),
     }
 }
 
 // The versions that a forward trace of the members marks, in a buffer with a byte for each, and the intake.
-fn mark_versions(
-    c: Counts,
-    entities: &[u32],
-    versions: &[u32],
-    edges: &[u32],
-    members: &[u32],
-    time: u32,
-    work: &mut [u8],
-    seen: &mut [u8],
-) -> u32
-    requires { Traceable c (tables entities.now versions.now edges.now) members.now × (c.versions ≡ length work.old) }
-    ensures { VersionsMarked (trail_of c (tables entities.now versions.now edges.now)) members.now time result
-        work.new }
+fn mark_versions(t: &Fitted, members: &[u32], time: u32, work: &mut [u8], seen: &mut [u8]) -> u32
+    requires { Traceable (trail_in t.now) members.now × (t.now.trail.counts.versions ≡ length work.old) }
+    ensures intake { result ≡ forward_intake (trail_in t.now) members.now time }
+    ensures marks { work.new ≡ forward_work (trail_in t.now) members.now time }
 {
-    let i = intake(c, entities, versions, edges, members, time, work, seen);
-    mark_starts(c, entities, versions, members, time, work, seen);
-    mark_on(c, versions, edges, work);
+    let i = intake(t, members, time, work, seen);
+    mark_starts(&t.trail, members, time, work, seen);
+    mark_on(t, work);
     i
 }
 
 // The forward trace of the members, where the checks pass. Until the entities are marked, their bytes say which members were seen.
+#[tactic(auto, using(crate::proofs::Buffers::room))]
 fn trace_on(
-    c: Counts,
-    entities: &[u32],
-    versions: &[u32],
-    edges: &[u32],
+    t: &Lent,
     members: &[u32],
     time: u32,
     work: &mut [u8],
     marks: &mut [u8],
 ) -> ForwardAnswer
-    requires { first_of (trace_checks c (tables entities.now versions.now edges.now) members.now work.old marks.old) ≡ Passed }
-    ensures { forward_trace result work.new marks.new
-        ≡ forward_of c (tables entities.now versions.now edges.now) members.now time work.old
-        marks.old }
+    requires { first_of (trace_checks t.now.counts (lent t.now) members.now work.old marks.old) ≡ Ok tt }
+    ensures { forward_trace result work.new marks.new ≡ forward_of t.now.counts (lent t.now) members.now time work.old marks.old }
 {
-    let n = c.versions as usize;
-    let e = c.entities as usize;
-    let i = mark_versions(
-        c,
-        entities,
-        versions,
-        edges,
-        members,
-        time,
-        &mut work[..n],
-        &mut marks[..e],
-    );
-    let count = mark_entities(c, versions, work, marks);
+    let n = t.counts.versions as usize;
+    let e = t.counts.entities as usize;
+    let fitted = Fitted { trail: *t };
+    let intake = mark_versions(&fitted, members, time, &mut work[..n], &mut marks[..e]);
+    let count = mark_entities(t, work, marks);
     ForwardAnswer {
         refusal: 0,
         count,
-        intake: i,
+        intake,
     }
 }
 
 // The forward trace of a list of entities at a time: the marks in the two buffers, how many entities are marked, and the
 // earliest intake.
+#[tactic(auto, unfolding(rules::specs::Forward::forward_of))]
 pub fn forward(
-    counts: Counts,
-    entities: &[u32],
-    versions: &[u32],
-    edges: &[u32],
+    t: &Lent,
     members: &[u32],
     time: u32,
     work: &mut [u8],
     marks: &mut [u8],
 ) -> ForwardAnswer
-    ensures { forward_trace result work.new marks.new
-        ≡ forward_of counts (tables entities.now versions.now edges.now) members.now time work.old
-        marks.old }
+    ensures { forward_trace result work.new marks.new ≡ forward_of t.now.counts (lent t.now) members.now time work.old marks.old }
 {
-    let undeclared = any_undeclared(counts.entities, members);
-    let checked = check_trace(counts, entities, versions, edges, undeclared, work, marks);
-    match checked {
-        Checked::Refused(r) => ForwardAnswer {
-            refusal: refusals::refusal_number(r),
+    match check_trace(t, members, work, marks) {
+        Err(r) => ForwardAnswer {
+            refusal: u32::from(r),
             count: 0,
             intake: 0,
         },
-        Checked::Passed => trace_on(
-            counts, entities, versions, edges, members, time, work, marks,
-        ),
+        Ok(()) => trace_on(t, members, time, work, marks),
     }
 }

@@ -1,6 +1,7 @@
 // The public calls of the trail, with C names. The caller lends the counts, the tables and the buffers, and each call
 // leaves in them what a definition of documents 01 and 02 makes of what was lent, where it refuses too. Beside that equation each
-// promise carries what demands 2 and 3 claim of the call, for every list of calls that leaves what it was lent.
+// promise carries what demands 2 and 3 claim of the call, for every list of calls that leaves what it was lent. The counts and tables are
+// parameters one by one, as C lends them.
 #![tactic(auto)]
 
 ghost use Rattle.std.specs.Prelude.{◌≡◌};
@@ -11,7 +12,7 @@ ghost use Rattle.rules.specs.Forward.{forward_trace, forward_of};
 ghost use Rattle.rules.specs.KeptLog.{kept_log, kept_log_of};
 ghost use Rattle.agreement.specs.Promises.{BatchPromise, BackwardPromise, ForwardPromise, LogPromise};
 
-use rows::Counts;
+use rows::{Counts, Lent};
 use rules::{BackwardAnswer, BatchAnswer, ForwardAnswer, LogAnswer};
 
 // Takes the records of a file in, in order until the first one refused, and updates the counts where the caller keeps them.
@@ -51,7 +52,13 @@ pub fn slt_backward(
     ensures backward_promise { BackwardPromise counts (tables entities.now versions.now edges.now) entity time
         work.old marks.old (backward_trace result work.new marks.new) }
 {
-    trace::backward(counts, entities, versions, edges, entity, time, work, marks)
+    let t = Lent {
+        counts,
+        entities,
+        versions,
+        edges,
+    };
+    trace::backward(&t, entity, time, work, marks)
 }
 
 // Marks what the start version of any of the members at the time leads to, and gives the earliest of their intakes, 0 for an empty
@@ -73,9 +80,13 @@ pub fn slt_forward(
     ensures forward_promise { ForwardPromise counts (tables entities.now versions.now edges.now)
         members.now time work.old marks.old (forward_trace result work.new marks.new) }
 {
-    trace::forward(
-        counts, entities, versions, edges, members, time, work, marks,
-    )
+    let t = Lent {
+        counts,
+        entities,
+        versions,
+        edges,
+    };
+    trace::forward(&t, members, time, work, marks)
 }
 
 // Writes the kept log: an event file of the declarations, the kept events and the signatures.
@@ -91,5 +102,11 @@ pub fn slt_kept_log(
     ensures log_promise { LogPromise counts (tables entities.now versions.now edges.now) out.old
         (kept_log result out.new) }
 {
-    kept_log::write_log(counts, entities, versions, edges, out)
+    let t = Lent {
+        counts,
+        entities,
+        versions,
+        edges,
+    };
+    kept_log::write_log(&t, out)
 }

@@ -1,4 +1,5 @@
-// The public calls of the trail under their C names: each export is the call of `trail`, with its clauses.
+// The public calls of the trail under their C names: each export is the call of `trail`, with its clauses and, as C lends them, its
+// parameters one by one.
 #![tactic(auto)]
 
 ghost use Rattle.std.specs.Prelude.{◌≡◌};

@@ -1,37 +1,34 @@
 -- The first line of a text: where it ends, and what follows.
 use Prim.Native.Nat.{ℕ, suc, ◌+◌, ◌≤◌, ◌<◌}
 use native.Mathlib.Omega.{arith}
-use native.Mathlib.Numerals.{add-one}
-use mathlib.Core.Path.{◌≡◌, refl, ◌∙◌, ap}
+use mathlib.Core.Path.{◌≡◌, refl, ap}
 use mathlib.Core.Bool.{Bool, true, false, cond}
 use mathlib.Core.List.{List, [], ◌∷◌}
-use lib.ListN.{length, take, drop, get_or, drop_of_length-le}
-use lib.Seq.{drop-cons}
+use lib.ListN.{length, take, drop}
 use lib.Dec.{eqb}
-use borrow.Author.Tests.{eq-eqb, ne_eqb}
+use Rattle.std.specs.Prelude.{None, Some}
+use Rattle.std.specs.List.{position, position_or_len}
+use Rattle.std.proofs.lemmas.List.Recursion.{is_position_or_len}
+use Rattle.std.proofs.lemmas.Bool.Decides.{nat_tests}
 use Rattle.words.specs.Names.{line_end, lines_in, first_line, past_line}
 
--- the first line, where it ends by its byte, or by the end of the text
-module _ (b : ℕ) (s : List ℕ) where
-  first_end : b ≡ line_end → first_line (b ∷ s) ≡ []
-  unfolding first_line
-  first_end e = rw (eq-eqb b line_end e)
+abbrev pub is_end : ℕ → Bool
+is_end b = eqb b line_end
 
-  first_more : (b ≡ line_end → ⊥) → first_line (b ∷ s) ≡ b ∷ first_line s
-  unfolding first_line
-  first_more e = rw (ne_eqb b line_end e)
+-- where the first line ends: at the first byte that is its end, or at the end of the text
+line_length : (s : List ℕ) → length (first_line s) ≡ position_or_len is_end s
+unfolding first_line
+line_length = is_position_or_len (λ s. length (first_line s)) is_end refl (λ b s. go (eqb b line_end) b s)
+  where
+    go : (e : Bool) (b : ℕ) (s : List ℕ) → length (cond e [] (b ∷ first_line s)) ≡ cond e 0 (1 + length (first_line s))
+    go true b s = refl
+    go false b s = omega arith
 
--- looking for the end from a place on
-module _ (text : List ℕ) (from at : ℕ) (h : at + length (first_line (drop at text)) ≡ from + length (first_line (drop from text))) where
-  pub end_found : at < length text → get_or text at 0 ≡ line_end → at ≡ from + length (first_line (drop from text))
-  end_found l e = let p = ap length (ap first_line (drop-cons text at 0 l) ∙ first_end _ _ e) in omega arith
+pub end_at : (s : List ℕ) (k : ℕ) → Some k ≡ position is_end s → (k ≡ length (first_line s)) × (k < length s)
+end_at s k e = grind (arith, line_length, nat_tests)
 
-  pub end_next : at < length text → (get_or text at 0 ≡ line_end → ⊥) → at + 1 + length (first_line (drop (at + 1) text)) ≡ from + length (first_line (drop from text))
-  end_next l e = let p = ap length (ap first_line (drop-cons text at 0 l) ∙ first_more _ _ e) in rw add-one (omega arith)
-
-  pub end_none : length text ≤ at → at ≡ from + length (first_line (drop from text))
-  unfolding first_line
-  end_none l = let p : length (first_line (drop at text)) ≡ 0 = rw (drop_of_length-le text l) refl in omega arith
+pub no_end_at : (s : List ℕ) → None ≡ position is_end s → length s ≤ length (first_line s)
+no_end_at s e = grind (arith, line_length, nat_tests)
 
 -- a text with a first line that ends, and one with none
 pub ends : (s : List ℕ) → length (first_line s) < length s → lines_in s ≡ suc (lines_in (past_line s))

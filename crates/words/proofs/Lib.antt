@@ -4,8 +4,6 @@ pub mod Quoted
 pub mod Tells
 pub mod FirstLine
 pub mod LineStarts
-pub mod Puts
 pub mod Escapes
 pub mod Digits
-pub mod PutParts
-pub mod Lengths
+pub mod Copies

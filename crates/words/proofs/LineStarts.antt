@@ -6,11 +6,13 @@ use native.Mathlib.Numerals.{add-one}
 use mathlib.Core.Path.{◌≡◌, refl, sym, ◌∙◌, ap, subst}
 use mathlib.Core.List.{List}
 use lib.ListN.{length, take, drop, get_or, set, length-drop}
-use lib.Seq.{drop-drop, get_or-set_same, get_or-set_other}
+use lib.Seq.{take-length, drop-drop, get_or-set_same, get_or-set_other}
 use borrow.Author.Tests.{lt-ltb}
 use Rattle.words.specs.Names.{lines_in, first_line, past_line, past_lines, name_in}
 use Rattle.words.specs.Index.{line_start, Indexed, HasLine}
-use Rattle.words.proofs.FirstLine.{ends, ends_past, no_end, first_part}
+use Rattle.words.proofs.FirstLine.{is_end, end_at, no_end_at, ends, ends_past, no_end, first_part}
+use Rattle.std.specs.Prelude.{None, Some}
+use Rattle.std.specs.List.{position}
 
 past_suc : (i : ℕ) (s : List ℕ) → past_lines (suc i) s ≡ past_line (past_lines i s)
 unfolding past_lines
@@ -120,17 +122,24 @@ module _ (text starts : List ℕ) (n found at : ℕ) (h : Indexing text found at
   pub indexed_all : n ≤ found → Indexed text n found (set starts found at)
   indexed_all l = record { found = let z = h.begun.lines in omega arith; at = known_more }
 
-  module _ (l : found < n) (end : ℕ) (e : end ≡ at + length (first_line (drop at text))) where
-    pub indexed_short : length text ≤ end → Indexed text n found (set starts found at)
-    indexed_short j = record { found = let z = begins_last text found at h.begun end e j in omega arith; at = known_more }
+  rest_is : take (length text - at) (drop at text) ≡ drop at text
+  rest_is = rw (← length-drop at text) (take-length (drop at text))
 
-    pub indexing_next : end < length text → Indexing text (found + 1) (end + 1) (set starts found at)
-    indexing_next j =
-        let s : suc found ≡ found + 1 = omega arith in
-        record {
-          begun = subst (λ (n : ℕ). Begins text n (end + 1)) s (begins_next text found at h.begun end e j);
-          known = λ i j. known_more i (omega arith);
-        }
+  -- the line that begins at `at` has no end, or its end is found after `len` bytes
+  module _ (l : found < n) where
+    pub indexed_short : None ≡ position is_end (take (length text - at) (drop at text)) → Indexed text n found (set starts found at)
+    indexed_short e =
+        let j = no_end_at (drop at text) (rw rest_is at e) in let d = length-drop at text in
+        record { found = let z = begins_last text found at h.begun _ refl (omega arith) in omega arith; at = known_more }
+
+    module _ (len : ℕ) (e : Some len ≡ position is_end (take (length text - at) (drop at text))) where
+      pub indexing_next : Indexing text (found + 1) (at + (len + 1)) (set starts found at)
+      indexing_next =
+          let j = end_at (drop at text) len (rw rest_is at e) in let r = length-drop at text in let d : at + len + 1 ≡ at + (len + 1) = omega arith in
+          record {
+            begun = rw (add-one found, ← d) (begins_next text found at h.begun (at + len) (omega arith) (omega arith));
+            known = λ i j. known_more i (omega arith);
+          }
 
 -- each of the n lines that were found
 pub indexed_has : (text starts : List ℕ) (n i : ℕ) → Indexed text n n starts → n < length starts → i < n → HasLine text starts i

@@ -4,5 +4,8 @@ pub mod Names
 pub mod Lines
 pub mod Tells
 pub mod Index
+pub mod Lent
+pub mod Sink
 pub mod Output
-pub mod Parts
+pub mod Room
+pub mod Laws

@@ -2,10 +2,12 @@
 #![tactic(auto)]
 
 mod count;
+mod lines;
 mod marks;
 mod names;
 mod put;
+mod sink;
 
 pub use count::{left_itself, left_line};
-pub use names::{index_lines, name};
+pub use names::{Names, index_lines};
 pub use put::{put_itself, put_line};

@@ -2,12 +2,13 @@
 ghost use Rattle.std.specs.Prelude.{◌≡◌};
 ghost use Rattle.words.specs.Quoted.{is_marked};
 
-pub const QUOTE: u8 = 0x22;
+pub const QUOTE: u8 = b'"';
 
-pub const BACKSLASH: u8 = 0x5C;
+pub const BACKSLASH: u8 = b'\\';
 
+#[tactic(auto, unfolding(crate::specs::Quoted::is_marked))]
 pub fn is_marked(b: u8) -> bool
     ensures { result ≡ is_marked b }
 {
-    if b == QUOTE { true } else { b == BACKSLASH }
+    matches!(b, QUOTE | BACKSLASH)
 }

@@ -1,7 +1,7 @@
 // The worked trail of document 01 through the calls: the batch, P2 to P8, and the kept log's length.
 #![tactic(auto)]
 
-use rows::Counts;
+use rows::{Counts, Lent};
 use std::io;
 
 // The worked file.
@@ -14,27 +14,15 @@ const FILE: [u8; 140] = [
 ];
 
 fn say_marks(rt: &impl Print, marks: [u8; 4]) -> io::Result<()> {
-    println!(rt;
-        " marks {} {} {} {}",
-        marks[0], marks[1], marks[2], marks[3]
-    )
+    let [a, b, c, d] = marks;
+    println!(rt; " marks {a} {b} {c} {d}")
 }
 
 // One backward trace, with its answer and marks.
-fn backward(
-    rt: &impl Print,
-    c: Counts,
-    entities: &[u32],
-    versions: &[u32],
-    edges: &[u32],
-    entity: u32,
-    time: u32,
-) -> io::Result<()> {
+fn backward(rt: &impl Print, t: &Lent, entity: u32, time: u32) -> io::Result<()> {
     let mut work = [0u8; 5];
     let mut marks = [0u8; 4];
-    let a = trace::backward(
-        c, entities, versions, edges, entity, time, &mut work, &mut marks,
-    );
+    let a = trace::backward(t, entity, time, &mut work, &mut marks);
     print!(rt;
         "backward {entity} at {time}: refusal {} count {}",
         a.refusal, a.count
@@ -43,21 +31,10 @@ fn backward(
 }
 
 // One forward trace of a list of entities; the word names them.
-fn forward(
-    rt: &impl Print,
-    c: Counts,
-    entities: &[u32],
-    versions: &[u32],
-    edges: &[u32],
-    word: &str,
-    members: &[u32],
-    time: u32,
-) -> io::Result<()> {
+fn forward(rt: &impl Print, t: &Lent, word: &str, members: &[u32], time: u32) -> io::Result<()> {
     let mut work = [0u8; 5];
     let mut marks = [0u8; 4];
-    let a = trace::forward(
-        c, entities, versions, edges, members, time, &mut work, &mut marks,
-    );
+    let a = trace::forward(t, members, time, &mut work, &mut marks);
     print!(rt;
         "{word} at {time}: refusal {} count {} intake {}",
         a.refusal, a.count, a.intake
@@ -65,37 +42,20 @@ fn forward(
     say_marks(rt, marks)
 }
 
-fn traces(
-    rt: &impl Print,
-    c: Counts,
-    entities: &[u32],
-    versions: &[u32],
-    edges: &[u32],
-) -> io::Result<()> {
-    backward(rt, c, entities, versions, edges, 2, 1)?;
-    backward(rt, c, entities, versions, edges, 2, 4)?;
-    backward(rt, c, entities, versions, edges, 2, 5)?;
-    backward(rt, c, entities, versions, edges, 2, 6)?;
-    let study = [0u32; 1];
-    let stager = [1u32; 1];
-    let montage = [3u32; 1];
-    let both = [1u32, 2u32];
-    forward(rt, c, entities, versions, edges, "forward 3", &montage, 0)?;
-    forward(rt, c, entities, versions, edges, "forward 1", &stager, 4)?;
-    forward(rt, c, entities, versions, edges, "forward 1", &stager, 5)?;
-    forward(rt, c, entities, versions, edges, "forward 0", &study, 4)?;
-    forward(rt, c, entities, versions, edges, "forward 1 2", &both, 6)
+fn traces(rt: &impl Print, t: &Lent) -> io::Result<()> {
+    for time in [1, 4, 5, 6] {
+        backward(rt, t, 2, time)?;
+    }
+    forward(rt, t, "forward 3", &[3], 0)?;
+    forward(rt, t, "forward 1", &[1], 4)?;
+    forward(rt, t, "forward 1", &[1], 5)?;
+    forward(rt, t, "forward 0", &[0], 4)?;
+    forward(rt, t, "forward 1 2", &[1, 2], 6)
 }
 
-fn log(
-    rt: &impl Print,
-    c: Counts,
-    entities: &[u32],
-    versions: &[u32],
-    edges: &[u32],
-) -> io::Result<()> {
+fn log(rt: &impl Print, t: &Lent) -> io::Result<()> {
     let mut out = [0u8; 104];
-    let a = kept_log::write_log(c, entities, versions, edges, &mut out);
+    let a = kept_log::write_log(t, &mut out);
     println!(rt; "kept log: refusal {} length {}", a.refusal, a.length)
 }
 
@@ -103,21 +63,24 @@ fn main(rt: HostRuntime) -> io::Result<()> {
     let mut entities = [0u32; 16];
     let mut versions = [0u32; 32];
     let mut edges = [0u32; 48];
-    let file = FILE;
-    let fresh = Counts {
-        entities: 0,
-        versions: 0,
-        edges: 0,
-        accepted: 0,
-        last: 0,
-    };
-    let b = growth::batch(fresh, &mut entities, &mut versions, &mut edges, &file);
-    let c = b.counts;
+    let b = growth::batch(
+        Counts::default(),
+        &mut entities,
+        &mut versions,
+        &mut edges,
+        &FILE,
+    );
     let a = b.answer;
     println!(rt;
         "batch: refusal {} taken {} tried {}",
         a.refusal, a.taken, a.tried
     )?;
-    traces(&rt, c, &entities, &versions, &edges)?;
-    log(&rt, c, &entities, &versions, &edges)
+    let t = Lent {
+        counts: b.counts,
+        entities: &entities,
+        versions: &versions,
+        edges: &edges,
+    };
+    traces(&rt, &t)?;
+    log(&rt, &t)
 }

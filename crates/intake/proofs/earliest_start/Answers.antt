@@ -1,13 +1,16 @@
--- `trace::intake::earliest_start` meets its contract. The invariant: the least with those not passed is the least of all.
-use native.Mathlib.Omega.{arith}
-use Rattle.intake.proofs.EarliestStart.{starts_begin, starts_next, starts_end}
+-- The start counts where the version is marked.
+use Rattle.intake.proofs.EarliestStart.{starts_begin, starts_marked, starts_other, starts_end}
+use Rattle.intake.proofs.earliest_start.Goals.{then-marked, else-marked}
 use Rattle.intake.proofs.earliest_start.Goals as goal
 
 pub loop-v-init : goal.loop-v-init
-loop-v-init c = (omega arith, search starts_begin)
+loop-v-init c = search starts_begin
 
 pub loop-v-preserved : goal.loop-v-preserved
-loop-v-preserved c = (omega arith, search starts_next)
+loop-v-preserved c = elim c.if-marked.branch [
+  | then-marked w ↦ search starts_marked
+  | else-marked w ↦ search starts_other
+]
 
 pub returns : goal.returns
 returns c = search starts_end

@@ -1,14 +1,8 @@
--- `trace::start::mark_starts` meets its contract. The invariant: the members from i on are marked as seen, and their start versions.
-use Prim.Native.Nat.{◌≤◌}
-use mathlib.Core.Path.{◌≡◌}
-use mathlib.Core.List.{[]}
-use lib.ListN.{length, drop}
-use Rattle.rules.specs.Trail.{tables, trail_of}
+-- The members passed are marked as seen, and their start versions.
+use Rattle.std.specs.Prelude.{length, take}
+use Rattle.rules.specs.Trail.{lent, trail_of}
 use Rattle.starts.proofs.StartsLoop.{Marks}
 use Rattle.starts.proofs.mark_starts.Given as goal
 
-abbrev pub invariant-loop-i : goal.invariant-loop-i
-invariant-loop-i l = (l.i ≤ length l.members) × (length l.work ≡ length l.initial.work) × (length l.seen ≡ length l.initial.seen) × Marks (trail_of l.c (tables l.entities l.versions [])) l.t (length l.initial.work) (length l.initial.seen) (drop l.i l.members) l.work l.seen
-
-abbrev pub decreases-loop-i : goal.decreases-loop-i
-decreases-loop-i l = l.i
+abbrev pub invariant-loop-u : goal.invariant-loop-u
+invariant-loop-u l = Marks (trail_of l.t.counts (lent l.t)) l.time (length l.initial.work) (length l.initial.seen) (take l.u-index l.members) l.work l.seen

@@ -1,18 +1,20 @@
 -- The invariant: it is known where the lines before `found` begin.
-use mathlib.Core.Path.{refl}
+use Rattle.std.proofs.Common.{◌≡◌, sym, ◌∙◌, arith}
 use Rattle.words.proofs.LineStarts.{indexing_begins, indexing_next, indexed_short, indexed_all}
-use borrow.Author.Rules.{rules}
-use native.Mathlib.Omega.{arith}
 use Rattle.words.proofs.names.index_lines.Goals as goal
 
 pub loop-found-init : goal.loop-found-init
-loop-found-init c = (omega arith, search rules, refl, omega arith, search indexing_begins)
-
-pub returns-then-n-found : goal.returns-then-n-found
-returns-then-n-found c = search indexed_all
-
-pub returns-then-text-end : goal.returns-then-text-end
-returns-then-text-end c = search indexed_short
+loop-found-init c = indexing_begins c.args.text.now c.args.starts.now
 
 pub loop-found-preserved : goal.loop-found-preserved
-loop-found-preserved c = (omega arith, search rules, search rules, omega arith, search indexing_next)
+loop-found-preserved c =
+    indexing_next _ _ c.args.n _ _ c.loop-found.invariant (omega arith) (omega arith) (omega arith) _ (sym c.in-Some.is ∙ c.first_end.ensures)
+
+pub returns-in_default : goal.returns-in_default
+returns-in_default c =
+    indexed_short _ _ _ _ _ c.loop-found.invariant (omega arith) (omega arith) (omega arith) (sym c.in_default.is ∙ c.first_end.ensures)
+
+pub returns : goal.returns
+returns c =
+    let e : c.loop-found.found ≡ c.args.n = omega arith in
+    indexed_all _ _ _ _ _ (rw e at c.loop-found.invariant) (omega arith) (omega arith) (omega arith)

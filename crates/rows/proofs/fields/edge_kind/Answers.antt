@@ -1,7 +1,0 @@
--- `rows::fields::edge_kind` meets its contract. The field is one read at its place in the row.
-use Rattle.rows.specs.Rows.{edge_at}
-use Rattle.rows.proofs.fields.edge_kind.Goals as goal
-
-pub returns : goal.returns
-unfolding edge_at
-returns c = cc

@@ -1,8 +1,0 @@
--- `trace::back::first_back` meets its contract. The arcs of the edges and of the versions are followed in turn.
-use Rattle.trace.specs.TraceArcs.{first_back}
-use Rattle.trace.proofs.Followed.{followed_append}
-use Rattle.trace.proofs.back.first_back.Goals as goal
-
-pub returns : goal.returns
-unfolding first_back
-returns c = search followed_append

@@ -1,9 +1,0 @@
--- `trace::back::previous_back` meets its contract. A version without previous has no arc, another has one.
-use Rattle.trace.proofs.BackArcs.{step-none, step_back_lem}
-use Rattle.trace.proofs.back.previous_back.Goals as goal
-
-pub returns-then-p-eq-NONE : goal.returns-then-p-eq-NONE
-returns-then-p-eq-NONE c = search step-none
-
-pub returns : goal.returns
-returns c = search step_back_lem

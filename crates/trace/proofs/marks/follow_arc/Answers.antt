@@ -1,6 +1,0 @@
--- `trace::marks::follow_arc` meets its contract. The arc's end is marked where its beginning is.
-use Rattle.trace.proofs.Followed.{arc_followed}
-use Rattle.trace.proofs.marks.follow_arc.Goals as goal
-
-pub returns : goal.returns
-returns c = search arc_followed

@@ -1,7 +1,0 @@
--- `trace::owners::mark_below` meets its contract. The buffer is cleared, marked and counted in turn.
-use borrow.Author.Rules.{rules}
-use Rattle.trace.proofs.EntityMarks.{owners_of}
-use Rattle.trace.proofs.owners.mark_below.Goals as goal
-
-pub returns : goal.returns
-returns c = (search rules, search owners_of)
