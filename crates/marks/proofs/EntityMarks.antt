@@ -6,9 +6,16 @@ use Rattle.rows.specs.declared.VersionRow.{VersionRow}
 use Rattle.rules.specs.Trail.{Trail}
 use Rattle.rules.specs.Marks.{marks_below, ones}
 use Rattle.closure.proofs.Entities.{length-marks_below, marks_below_zero, marks_below_marked, marks_below-other}
+use Rattle.marks.specs.MarkedIf.{MarkedIf}
 use Rattle.marks.specs.Owners.{owner_marked, owners_marked, EntitiesMarked}
 
 module _ (W : ℕ → VersionRow) (work : List ℕ) where
+  -- one version, by what was read of it
+  pub owner_marked_lem : (k : ℕ) (m m' : List ℕ) (row : VersionRow) (r c : Bool) → row ≡ W k → r ≡ eqb (get_or work k 0) 1 → MarkedIf r row.entity.0 m c m'
+      → m' ≡ owner_marked W work k m
+  unfolding owner_marked
+  owner_marked_lem k m m' row r c e q w = w.marks ∙ (λ i. cond (q i) (set m (e i).entity.0 1) m)
+
   -- the loop stands at k
   module _ (k : ℕ) (m₀ m : List ℕ) (i : m ≡ owners_marked W work k m₀) where
     pub owners_next : (m' : List ℕ) → m' ≡ owner_marked W work k m → m' ≡ owners_marked W work (k + 1) m₀

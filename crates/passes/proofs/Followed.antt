@@ -15,6 +15,7 @@ use Rattle.closure.proofs.Marks.{set_marked}
 use Rattle.closure.proofs.Passes.{keeps_passes}
 use Rattle.marks.specs.MarkedIf.{MarkedIf}
 use Rattle.passes.specs.Followed.{fires, changes, Followed}
+use Rattle.passes.specs.TraceArcs.{when}
 
 -- an arc that adds no mark changes nothing
 follow_still : (a : Arc) (m : List ℕ) → fires a m ≡ false → follow a m ≡ m
@@ -39,6 +40,14 @@ module _ (m : List ℕ) (f t : ℕ) where
   unfolding changes pass
   arc_still h = record { changed = sym (or-false (fires (arc f t) m) ∙ h); marks = sym (follow_still (arc f t) m h) }
 
+  pub arc_marked : (r : Bool) → r ≡ eqb (get_or m t 0) 1 → r ≡ true → Followed (arc f t ∷ []) m false m
+  unfolding fires
+  arc_marked r q h = arc_still (go (eqb (get_or m f 0) 1) (eqb (get_or m t 0) 1) (sym q ∙ h))
+    where
+      go : (x b : Bool) → b ≡ true → x && not b ≡ false
+      go true b e = rw e
+      go false b e = refl
+
   pub arc_idle : (r : Bool) → r ≡ eqb (get_or m f 0) 1 → r ≡ false → Followed (arc f t ∷ []) m false m
   unfolding fires
   arc_idle r q h = arc_still (rw (← q, h))
@@ -47,6 +56,11 @@ module _ (m : List ℕ) (f t : ℕ) where
 pub followed_none : (m : List ℕ) → Followed [] m false m
 unfolding changes pass
 followed_none m = record { changed = refl; marks = refl }
+
+-- an arc where a test holds, that adds no mark
+pub when_still : (b : Bool) (a : Arc) (m : List ℕ) → Followed (a ∷ []) m false m → Followed (when b a) m false m
+when_still true a m f = f
+when_still false a m f = followed_none m
 
 -- two lists in turn
 

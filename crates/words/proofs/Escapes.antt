@@ -1,12 +1,13 @@
 -- A name in quotes, a byte at a time.
 use Prim.Native.Nat.{ℕ, suc, ◌+◌, ◌<◌}
 use native.Mathlib.Numerals.{add-one}
-use mathlib.Core.Path.{◌≡◌, refl, ap}
+use native.Mathlib.Omega.{arith}
+use mathlib.Core.Path.{◌≡◌, refl, ◌∙◌, ap}
 use mathlib.Core.Bool.{Bool, true, false, cond}
 use mathlib.Core.List.{List, [], ◌∷◌, ◌++◌, append_assoc}
-use lib.ListN.{length, get_or, take, drop}
+use lib.ListN.{length, length-append, get_or, take, drop}
 use lib.Seq.{take-suc, drop-cons}
-use Rattle.words.specs.Quoted.{backslash, is_marked, escaped}
+use Rattle.words.specs.Quoted.{backslash, quote, is_marked, escaped, quoted}
 use Rattle.words.specs.Sink.{SinkLaws}
 
 escaped-++ : (p q : List ℕ) → escaped (p ++ q) ≡ escaped p ++ escaped q
@@ -42,3 +43,9 @@ module _ (name : List ℕ) (i : ℕ) (l : i < length name) where
 
       pub more_put : {s₀ : S} → T s₀ (escaped (take i name)) s → T s₀ (escaped (take (i + 1) name)) t
       more_put q = rw escaped_more (laws.join q p)
+
+-- the quotes around a name
+
+pub length-quoted : (name : List ℕ) → length (quoted name) ≡ length (escaped name) + 2
+unfolding quoted
+length-quoted name = ap suc (length-append (escaped name) (quote ∷ [])) ∙ let e : suc (length (escaped name) + 1) ≡ length (escaped name) + 2 = omega arith in e

@@ -7,3 +7,5 @@ pub mod LineStarts
 pub mod Escapes
 pub mod Digits
 pub mod Copies
+pub mod PutParts
+pub mod Puts

@@ -7,16 +7,17 @@ ghost use Rattle.words.specs.Lent.{IsNamed, name_of};
 
 use rows::EntityNo;
 
-// A lent text, and where its lines begin. It has no invariant: a call asks for the lines that it reads, and not for all of them.
+// A lent text, and where its lines begin, each lent by itself: a name is a part of the text, and may be kept longer than the places.
+// It has no invariant: a call asks for the lines that it reads, and not for all of them.
 #[derive(Clone, Copy)]
-pub struct Names<'a> {
-    pub text: &'a [u8],
-    pub starts: &'a [u64],
+pub struct Names<'text, 'starts> {
+    pub text: &'text [u8],
+    pub starts: &'starts [u64],
 }
 
-impl<'a> Names<'a> {
+impl<'text> Names<'text, '_> {
     // The name of an entity: the part of the text that is its line, without the line's end.
-    pub fn name(&self, i: EntityNo) -> &'a [u8]
+    pub fn name(&self, i: EntityNo) -> &'text [u8]
         requires { IsNamed self.now i.0 }
         ensures { result.now ≡ name_of self.now i.0 }
     {
